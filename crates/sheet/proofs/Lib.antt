@@ -1,0 +1,4 @@
+pub mod Lists
+mod Admitting
+mod Loading
+mod Filling

@@ -1,0 +1,5 @@
+pub mod Operations
+pub mod Refusals
+pub mod Tables
+pub mod Sheets
+pub mod Tabled

@@ -1,0 +1,4 @@
+mod CellBits
+mod Counting
+mod PackedFacts
+mod CellFacts
