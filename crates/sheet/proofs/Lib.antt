@@ -1,4 +1,4 @@
 pub mod Lists
-mod Admitting
+pub mod Admitting
 mod Loading
 mod Filling

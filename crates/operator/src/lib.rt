@@ -1,0 +1,3 @@
+// The operator's calls.
+mod reach;
+pub mod stopped;

@@ -1,0 +1,2 @@
+// The processor's state.
+pub mod state;
