@@ -2,3 +2,4 @@ mod CellBits
 mod Counting
 mod PackedFacts
 mod CellFacts
+mod Zeroed

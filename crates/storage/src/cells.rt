@@ -1,11 +1,15 @@
 // Cell storage: one 32-bit number for each place, with a parity bit.
 ghost use mathlib.Core.Path.{_≡_};
 ghost use mathlib.Core.Bool.{true, false};
-ghost use Prim.Native.Nat.{_/_};
+ghost use lib.ListN.{replicate};
+ghost use Prim.Native.Nat.{_/_, min};
 ghost use Rattle.std.specs.Of.Vec.{vec-items};
+ghost use Rattle.std.specs.Vec.{made};
 ghost use Rattle.storage.specs.Cells.{cellOf, cellGuarded, cellWritten, cells as places, cellsGuarded, cellsWritten};
-ghost use Rattle.storage.specs.Meaning.{guarded, withProtect, withValue, within, written};
+ghost use Rattle.storage.specs.Meaning.{blank, guarded, withProtect, withValue, within, written};
 use crate::Storage;
+use std::alloc::AllocError;
+use std::alloc::Global;
 
 #[derive(Drop)]
 pub struct CellStorage {
@@ -18,6 +22,15 @@ impl CellStorage {
         ensures { λ r. ⌜ r .cells ≡ cells ⌝ }
     {
         CellStorage { cells }
+    }
+
+    // A storage of a size, at most 524,288, whose places are zero, unprotected and sound.
+    pub fn zeroed(heap: Global, size: u32) -> Result<CellStorage, AllocError>
+        ensures { λ r. ⌜ made r (λ s. places (vec-items (s .cells)) ≡ replicate (min size 524288) blank) ⌝ }
+    {
+        let count = size.min(524_288);
+        let cells = vec![in heap; 0x1_0000u32; count as usize]?;
+        Ok(CellStorage { cells })
     }
 
     // The list of cells.

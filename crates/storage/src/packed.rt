@@ -1,9 +1,14 @@
 // Packed storage: a list of halfwords, and a list of protect bits, sixteen to a halfword from the left.
 ghost use mathlib.Core.Path.{_≡_};
+ghost use Prim.Native.Nat.{min};
+ghost use lib.ListN.{replicate};
 ghost use Rattle.std.specs.Of.Vec.{vec-items};
-ghost use Rattle.storage.specs.Meaning.{guarded, within, written};
+ghost use Rattle.std.specs.Vec.{made};
+ghost use Rattle.storage.specs.Meaning.{blank, guarded, within, written};
 ghost use Rattle.storage.specs.Packed.{bitsGuarded, packed as places, valuesWritten};
 use crate::Storage;
+use std::alloc::AllocError;
+use std::alloc::Global;
 use word::bits::bit;
 use word::bits::with_bit;
 
@@ -20,6 +25,16 @@ impl PackedStorage {
         ensures protects { λ r. ⌜ r .protects ≡ protects ⌝ }
     {
         PackedStorage { values, protects }
+    }
+
+    // A storage of a size, at most 524,288, whose places are zero, unprotected and sound.
+    pub fn zeroed(heap: Global, size: u32) -> Result<PackedStorage, AllocError>
+        ensures { λ r. ⌜ made r (λ s. places (vec-items (s .values)) (vec-items (s .protects)) ≡ replicate (min size 524288) blank) ⌝ }
+    {
+        let count = size.min(524_288);
+        let values = vec![in heap; 0u16; count as usize]?;
+        let protects = vec![in heap; 0u16; (count as usize + 15) / 16]?;
+        Ok(PackedStorage { values, protects })
     }
 
     // The two lists.

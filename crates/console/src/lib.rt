@@ -1,0 +1,2 @@
+// A session at the console.
+pub mod store;
