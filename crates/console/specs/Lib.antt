@@ -1,1 +1,3 @@
 pub mod Store
+pub mod Draft
+pub mod Lines

@@ -1,6 +1,9 @@
 // The storage of a session, of either kind.
 ghost use mathlib.Core.Path.{_≡_};
 ghost use Rattle.console.specs.Store.{meaningOf};
+
+mod setup;
+
 use storage::Storage;
 use storage::cells::CellStorage;
 use storage::cells::CellStorageStorage;

@@ -104,7 +104,11 @@ impl Operation {
             Operation::Lh | Operation::Ah | Operation::Sh | Operation::Ch => (true, false, true),
             Operation::St | Operation::Sth | Operation::La => (true, false, true),
             Operation::Bc | Operation::Bal | Operation::Bct | Operation::Bo => (false, true, true),
-            Operation::Lxa | Operation::Svc | Operation::Lps | Operation::Ispb => (false, false, true),
+            Operation::Lxa | Operation::Svc | Operation::Lps | Operation::Ispb => (
+                false,
+                false,
+                true,
+            ),
             Operation::Sll | Operation::Srl | Operation::Sra => (true, false, false),
             Operation::Ahi | Operation::Lhi | Operation::Pc => (false, true, false),
         };

@@ -70,7 +70,8 @@ impl Refusal {
     {
         match self {
             Refusal::Sheet(SheetFault::Key(entry) | SheetFault::Code(entry)) => entry,
-            Refusal::Storage(StorageFault::Outside(address) | StorageFault::Unsound(address)) => address,
+            Refusal::Storage(StorageFault::Outside(address) | StorageFault::Unsound(address)) =>
+                address,
             _ => 0,
         }
     }

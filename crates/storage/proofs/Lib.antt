@@ -1,5 +1,5 @@
 mod CellBits
 mod Counting
 mod PackedFacts
-mod CellFacts
+pub mod CellFacts
 mod Zeroed

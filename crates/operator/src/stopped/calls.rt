@@ -34,7 +34,12 @@ impl Stopped {
     }
 
     // Writes a halfword into storage.
-    pub fn deposit<S: Storage>(&self, storage: &mut S, address: u32, value: u16) -> Result<(), Refusal>
+    pub fn deposit<S: Storage>(
+        &self,
+        storage: &mut S,
+        address: u32,
+        value: u16,
+    ) -> Result<(), Refusal>
         ensures answer { λ r. ⌜ told r ≡ reached (meaning (now (storage .entry))) address ⌝ }
         ensures after { λ _. ⌜ meaning (now (storage .exit)) ≡ afterDeposit (meaning (now (storage .entry))) address value ⌝ }
         ensures same { λ _. ⌜ now (self .exit) .state ≡ now (self .entry) .state ⌝ }
@@ -45,7 +50,12 @@ impl Stopped {
     }
 
     // Sets the protect bit of a place.
-    pub fn protect<S: Storage>(&self, storage: &mut S, address: u32, bit: bool) -> Result<(), Refusal>
+    pub fn protect<S: Storage>(
+        &self,
+        storage: &mut S,
+        address: u32,
+        bit: bool,
+    ) -> Result<(), Refusal>
         ensures answer { λ r. ⌜ told r ≡ reached (meaning (now (storage .entry))) address ⌝ }
         ensures after { λ _. ⌜ meaning (now (storage .exit)) ≡ afterProtect (meaning (now (storage .entry))) address bit ⌝ }
         ensures same { λ _. ⌜ now (self .exit) .state ≡ now (self .entry) .state ⌝ }

@@ -7,7 +7,10 @@ use Rattle.operator.proofs.stopped.Stopped.new.Needs as need
 
 pub ghost-result : need.ghost-result
 ghost-result c =
-    let e = sym (c .fresh .ensures) in
-    (subst (λ (s : State). Admitted (s .table)) e fresh-admitted,
-    (subst (λ (s : State). Narrow (s .low .sectors)) e fresh-low,
-    (subst (λ (s : State). Narrow (s .high .sectors)) e fresh-high, tt)))
+    let e = sym (c .fresh .ensures) in (
+      subst (λ (s : State). Admitted (s .table)) e fresh-admitted,
+      (
+        subst (λ (s : State). Narrow (s .low .sectors)) e fresh-low,
+        (subst (λ (s : State). Narrow (s .high .sectors)) e fresh-high, tt),
+      ),
+    )

@@ -1,0 +1,5 @@
+// The text of each line that the program prints.
+pub mod answer;
+pub mod line;
+pub mod number;
+pub mod unread;

@@ -1,0 +1,7 @@
+// The operator's script: what one line of it says.
+pub mod command;
+mod name;
+mod number;
+mod parse;
+pub mod read;
+mod verb;
