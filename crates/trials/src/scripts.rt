@@ -58,19 +58,46 @@ fn unread(rt: LibcRuntime) -> Result<(), Fail> {
     Ok(())
 }
 
+fn is_blank(read: Result<Command, Unread>) -> bool {
+    matches!(read, Ok(Command::Blank))
+}
+
+fn is_entry(read: Result<Command, Unread>, key: u16, number: u16) -> bool {
+    match read {
+        Ok(Command::Entry { key: k, number: n }) => k == key && n == number,
+        _ => false,
+    }
+}
+
+fn is_view(read: Result<Command, Unread>, address: u32, count: u32) -> bool {
+    match read {
+        Ok(Command::View { address: a, count: n }) => a == address && n == count,
+        _ => false,
+    }
+}
+
 #[test]
 fn read(rt: LibcRuntime) -> Result<(), Fail> {
-    let heap = rt.alloc();
-    check(matches!(read_line(heap, ""), Ok(Command::Blank)))?;
-    check(matches!(read_line(heap, "  # deposit 80"), Ok(Command::Blank)))?;
-    check(matches!(read_line(heap, "load# the sheet"), Ok(Command::Load)))?;
-    check(matches!(read_line(heap, "view FFFFFF00 256"), Ok(Command::View { address: 0xffff_ff00, count: 256 })))?;
-    check(matches!(read_line(heap, "view FFFFFFFF 0"), Ok(Command::View { address: 0xffff_ffff, count: 0 })))?;
-    check(matches!(read_line(heap, "examine 000000000aB"), Ok(Command::Examine { address: 0xab, count: 1 })))?;
-    check(matches!(read_line(heap, "\tprotect 1 0 010"), Ok(Command::Protect { address: 1, bit: false, count: 10 })))?;
-    check(matches!(read_line(heap, "entry 4ff ISPB"), Ok(Command::Entry { key: 0x4ff, number: 34 })))?;
-    check(matches!(read_line(heap, "entry FFFF 65535"), Ok(Command::Entry { key: 0xffff, number: 0xffff })))?;
-    let Ok(Command::Deposit { address, values }) = read_line(heap, "deposit 80 b0E2 5") else {
+    for line in ["", "   ", "# load", "  \t# deposit 80"] {
+        check(is_blank(read_line(rt.alloc(), line))).note(line)?;
+    }
+    for (line, key, number) in [("entry 4ff ISPB", 0x4ff, 34), ("entry FFFF 65535", 0xffff, 0xffff), ("entry 0 0007# C", 0, 7)] {
+        check(is_entry(read_line(rt.alloc(), line), key, number)).note(line)?;
+    }
+    for (line, address, count) in [
+        ("view FFFFFF00 256", 0xffff_ff00, 256),
+        ("view FFFFFFFF 0", 0xffff_ffff, 0),
+        ("\tview   000000000aB", 0xab, 1),
+        ("view 0 4294967295 # all", 0, 0xffff_ffff),
+    ] {
+        check(is_view(read_line(rt.alloc(), line), address, count)).note(line)?;
+    }
+    Ok(())
+}
+
+#[test]
+fn values(rt: LibcRuntime) -> Result<(), Fail> {
+    let Ok(Command::Deposit { address, values }) = read_line(rt.alloc(), "deposit 80 b0E2 5") else {
         return Err(Fail::new("deposit"));
     };
     check_eq(address, 0x80)?;

@@ -1,5 +1,5 @@
 use Rattle.word.proofs.Bitwork.{low-bit}
-use Rattle.word.proofs.bits.bit.Needs as need
+use Rattle.word.proofs.bits.bit_at.Needs as need
 
 pub returns : need.returns
 returns c = low-bit _
