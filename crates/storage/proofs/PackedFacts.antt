@@ -11,7 +11,7 @@ use Rattle.std.proofs.shelf.Counted.{length-map-counting}
 use Rattle.std.specs.declared.option.Option.{Option}
 use Rattle.std.specs.declared.option.Option.the-variants.{Some, None}
 use Rattle.std.proofs.shelf.Lists.{getD-read, length-set, getD-set-same, getD-set-other, getD-past}
-use Rattle.std.proofs.shelf.Tests.{cases-eq, cases-lt, cond-below, lt-ltb}
+use Rattle.std.proofs.shelf.Tests.{cases-eq, cases-lt, cond-below}
 use Rattle.storage.specs.Meaning.{Place, at, within, readOf, protectedOf, written, guarded, blank, withValue, withProtect}
 use Rattle.word.specs.Bits.{bitAt, putBit, fromRight}
 use Rattle.storage.specs.Packed.{packed, packedSize, packedPlace, valuesWritten, bitsGuarded}
@@ -82,9 +82,6 @@ module _ (vs ps : List ℕ) where
         let e : getD ps (i / 16) 0 ≡ w = sym (getD-read ps (i / 16) w packed-bit-inside found 0) in
         let here : bitAt w (fromRight i) ≡ at (packed vs ps) i .protected = simp (at-packed i (inside i h), e) in
         ap Some here ∙ cond-below i (length (packed vs ps)) _ None h
-
-    pub packed-answer : true ≡ within (packed vs ps) i
-    packed-answer = sym (lt-ltb i (length (packed vs ps)) h)
 
     pub packed-writes : (v : ℕ) → packed (set vs i v) ps ≡ written (packed vs ps) i v
     packed-writes v = packed-written i v (inside i h) ∙ cond-below i (length (packed vs ps)) _ (packed vs ps) h

@@ -5,6 +5,8 @@ use Prim.Native.Nat.{ℕ, _+_, _-_, _*_, _/_, _%_}
 use lib.ListN.{getD, take, set}
 use lib.Count.{ones}
 use lib.Dec.{eqb}
+use Rattle.std.specs.declared.option.Option.{Option}
+use Rattle.std.specs.declared.option.Option.the-variants.{Some, None}
 use Rattle.word.specs.Bits.{num}
 use Rattle.storage.specs.Meaning.{Place, within}
 
@@ -12,6 +14,11 @@ use Rattle.storage.specs.Meaning.{Place, within}
 abbrev pub cellOf : ℕ → Place
 cellOf c =
     record { value = c % 65536; protected = eqb (c / 131072 % 2) 1; sound = eqb (ones (c % 131072) % 2) 1 }
+
+-- What a cell that was found means.
+abbrev pub foundCell : Option ℕ → Option Place
+foundCell (Some c) = Some (cellOf c)
+foundCell None = None
 
 -- The parity bit that makes the count of ones odd.
 abbrev pub parityOf : ℕ → ℕ
@@ -28,6 +35,10 @@ cellGuarded c b = (c / 262144 * 2 + num b) * 131072 + c % 131072
 -- What a list of cells means: at most 524,288 places.
 unfoldable pub cells : List ℕ → List Place
 cells cs = map cellOf (take 524288 cs)
+
+-- The cell of a place, or none at or above the size.
+abbrev pub cellIn : List ℕ → ℕ → Option ℕ
+cellIn cs i = cond (within (cells cs) i) (Some (getD cs i 0)) None
 
 -- The list of cells after a write and after a guard: every other cell is kept, those at or above the size too.
 abbrev pub cellsWritten : List ℕ → ℕ → ℕ → List ℕ

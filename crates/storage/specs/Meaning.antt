@@ -22,6 +22,10 @@ at m i = getD m i blank
 abbrev pub within : List Place → ℕ → Bool
 within m i = ltb i (length m)
 
+-- What stands at place i, or none at or above the size.
+abbrev pub placeOf : List Place → ℕ → Option Place
+placeOf m i = cond (within m i) (Some (at m i)) None
+
 -- Read: the halfword and the mark, or none at or above the size.
 abbrev pub readOf : List Place → ℕ → Option (ℕ × Bool)
 readOf m i = cond (within m i) (Some (at m i .value, at m i .sound)) None

@@ -4,6 +4,8 @@ use mathlib.Core.Bool.{Bool, true, cond}
 use Prim.Native.Nat.{ℕ, _*_, _/_, min}
 use lib.ListN.{length, getD, set}
 use Rattle.std.specs.Iters.{counting}
+use Rattle.std.specs.declared.option.Option.{Option}
+use Rattle.std.specs.declared.option.Option.the-variants.{Some, None}
 use Rattle.word.specs.Bits.{bitAt, putBit, fromRight}
 use Rattle.storage.specs.Meaning.{Place, within}
 
@@ -19,6 +21,16 @@ packedPlace vs ps i =
 -- What the two lists mean.
 unfoldable pub packed : List ℕ → List ℕ → List Place
 packed vs ps = map (packedPlace vs ps) (counting 0 (packedSize vs ps))
+
+-- What a value that was found is read as: every place is sound.
+abbrev pub foundValue : Option ℕ → Option (ℕ × Bool)
+foundValue (Some v) = Some (v, true)
+foundValue None = None
+
+-- The protect bit of place i in the halfword that was found to hold it.
+abbrev pub foundBit : Option ℕ → ℕ → Option Bool
+foundBit (Some w) i = Some (bitAt w (fromRight i))
+foundBit None i = None
 
 -- The values after a write, and the protect bits after a guard: all else is kept, also what lies at or above the size.
 abbrev pub valuesWritten : List ℕ → List ℕ → ℕ → ℕ → List ℕ

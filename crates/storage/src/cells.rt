@@ -1,12 +1,12 @@
 // Cell storage: one 32-bit number for each place, with a parity bit.
 ghost use mathlib.Core.Path.{_≡_};
 ghost use mathlib.Core.Bool.{true, false};
-ghost use lib.ListN.{replicate};
-ghost use Prim.Native.Nat.{_/_, min};
+ghost use Prim.Native.Nat.{_/_, _≤_, min};
+ghost use lib.ListN.{length, replicate, set};
 ghost use Rattle.std.specs.Of.Vec.{vec-items};
 ghost use Rattle.std.specs.Vec.{made};
-ghost use Rattle.storage.specs.Cells.{cellOf, cellGuarded, cellWritten, cells as places, cellsGuarded, cellsWritten};
-ghost use Rattle.storage.specs.Meaning.{blank, guarded, withProtect, withValue, within, written};
+ghost use Rattle.storage.specs.Cells.{cellGuarded, cellIn, cellOf, cellWritten, cells as places, cellsGuarded, cellsWritten, foundCell};
+ghost use Rattle.storage.specs.Meaning.{blank, guarded, placeOf, withProtect, withValue, within, written};
 use crate::Storage;
 use std::alloc::AllocError;
 use std::alloc::Global;
@@ -39,6 +39,34 @@ impl CellStorage {
     {
         let CellStorage { cells } = self;
         cells
+    }
+
+    // The count of places.
+    fn count(&self) -> usize
+        ensures answer { λ r. ⌜ r ≡ length (places (vec-items (now (self .entry) .cells))) ⌝ }
+        ensures few { λ r. ⌜ r ≤ 524288 ⌝ }
+    {
+        self.cells.len().min(524_288)
+    }
+
+    // The cell of a place, or none at or above the size.
+    fn cell(&self, place: u32) -> Option<u32>
+        ensures answer { λ r. ⌜ r ≡ cellIn (vec-items (now (self .entry) .cells)) place ⌝ }
+        ensures found { λ r. ⌜ foundCell r ≡ placeOf (places (vec-items (now (self .entry) .cells))) place ⌝ }
+    {
+        if place as usize >= self.count() {
+            return None;
+        }
+        Some(self.cells[place as usize])
+    }
+
+    // Puts another cell in the place of one.
+    fn put(&mut self, place: u32, cell: u32)
+        requires { ⌜ within (places (vec-items (now self .cells))) place ≡ true ⌝ }
+        ensures list { λ _. ⌜ vec-items (now (self .exit) .cells) ≡ set (vec-items (now (self .entry) .cells)) place cell ⌝ }
+        ensures after { λ _. ⌜ places (vec-items (now (self .exit) .cells)) ≡ set (places (vec-items (now (self .entry) .cells))) place (cellOf cell) ⌝ }
+    {
+        self.cells[place as usize] = cell;
     }
 }
 
@@ -94,22 +122,17 @@ pub impl Storage for CellStorage as CellStorageStorage {
     ghost meaning = { λ s. places (vec-items (s .cells)) };
 
     fn size(&self) -> usize {
-        self.cells.len().min(524_288)
+        self.count()
     }
 
     fn read(&self, place: u32) -> Option<(u16, bool)> {
-        if place as usize >= self.size() {
-            return None;
-        }
-        let cell = self.cells[place as usize];
+        let cell = self.cell(place)?;
         Some((value_of(cell), is_sound(cell)))
     }
 
     fn protected(&self, place: u32) -> Option<bool> {
-        if place as usize >= self.size() {
-            return None;
-        }
-        Some(is_protected(self.cells[place as usize]))
+        let cell = self.cell(place)?;
+        Some(is_protected(cell))
     }
 
     fn write(&mut self, place: u32, value: u16) -> bool
@@ -117,11 +140,10 @@ pub impl Storage for CellStorage as CellStorageStorage {
         ensures after { λ _. ⌜ places (vec-items (now (self .exit) .cells)) ≡ written (places (vec-items (now (self .entry) .cells))) place value ⌝ }
         ensures list { λ _. ⌜ vec-items (now (self .exit) .cells) ≡ cellsWritten (vec-items (now (self .entry) .cells)) place value ⌝ }
     {
-        if place as usize >= self.size() {
+        let Some(cell) = self.cell(place) else {
             return false;
-        }
-        let old = self.cells[place as usize];
-        self.cells[place as usize] = with_value(old, value);
+        };
+        self.put(place, with_value(cell, value));
         true
     }
 
@@ -130,11 +152,10 @@ pub impl Storage for CellStorage as CellStorageStorage {
         ensures after { λ _. ⌜ places (vec-items (now (self .exit) .cells)) ≡ guarded (places (vec-items (now (self .entry) .cells))) place bit ⌝ }
         ensures list { λ _. ⌜ vec-items (now (self .exit) .cells) ≡ cellsGuarded (vec-items (now (self .entry) .cells)) place bit ⌝ }
     {
-        if place as usize >= self.size() {
+        let Some(cell) = self.cell(place) else {
             return false;
-        }
-        let old = self.cells[place as usize];
-        self.cells[place as usize] = with_protect(old, bit);
+        };
+        self.put(place, with_protect(cell, bit));
         true
     }
 }

@@ -1,6 +1,6 @@
 use native.Mathlib.Omega.{arith}
 use Rattle.storage.proofs.PackedFacts.{length-packed, packed-read}
-use Rattle.storage.proofs.packed.PackedStorageStorage.read.Needs as need
+use Rattle.storage.proofs.packed.PackedStorage.value.Needs as need
 
 pub index-requires : need.index-requires
 index-requires c κs = let l = length-packed (c .args .self .now .values .items) (c .args .self .now .protects .items) in omega arith
