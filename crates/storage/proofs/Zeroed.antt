@@ -2,7 +2,7 @@
 use mathlib.Core.Path.{_≡_, refl, sym, ap, _∙_}
 use mathlib.Core.List.{List, map}
 use mathlib.Core.Bool.{Bool, true, false}
-use Prim.Native.Nat.{ℕ, _*_, _/_, _%_, _^_, _+_, _≤_, _<_, min}
+use Prim.Native.Nat.{ℕ, _*_, _/_, _%_, _^_, _+_, _≤_, _<_}
 use native.Mathlib.Nat.{zero-div}
 use native.Mathlib.Omega.{arith}
 use lib.Count.{ones, onesIn}
@@ -22,15 +22,15 @@ blank-cell : cellOf 65536 ≡ blank
 unfolding ones onesIn
 blank-cell = refl
 
-zeroed : (n : ℕ) → n ≤ 524288 → cells (replicate n 65536) ≡ replicate n blank
+cells-blank : (n : ℕ) → n ≤ 524288 → cells (replicate n 65536) ≡ replicate n blank
 unfolding cells
-zeroed n h =
+cells-blank n h =
     let l = length-replicate {A = ℕ} n 65536 in
     ap (map cellOf) (take-all 524288 (replicate n 65536) (omega arith))
     ∙ (map-replicate cellOf n 65536 ∙ ap (replicate n) blank-cell)
 
-pub cells-zeroed : (n s : ℕ) (cs : List ℕ) → n ≡ min s 524288 → cs ≡ replicate n 65536 → cells cs ≡ replicate (min s 524288) blank
-cells-zeroed n s cs e c = rw (c, ← e) (zeroed n (omega arith))
+pub cells-zeroed : (n : ℕ) (cs : List ℕ) → n ≤ 524288 → cs ≡ replicate n 65536 → cells cs ≡ replicate n blank
+cells-zeroed n cs h e = rw e (cells-blank n h)
 
 module _ (n m : ℕ) (h : n ≤ 524288) (b : n ≤ 16 * m) where
   size : packedSize (replicate n 0) (replicate m 0) ≡ n
@@ -46,12 +46,12 @@ module _ (n m : ℕ) (h : n ≤ 524288) (b : n ≤ 16 * m) where
       let v : getD (replicate n 0) k 0 ≡ 0 = getD-replicate n k 0 0 hk in
       λ i. record { value = sym v i; protected = sym p i; sound = true }
 
-  filled : packed (replicate n 0) (replicate m 0) ≡ replicate n blank
+  packed-blank : packed (replicate n 0) (replicate m 0) ≡ replicate n blank
   unfolding packed
-  filled =
+  packed-blank =
       ap (λ (x : ℕ). map (packedPlace (replicate n 0) (replicate m 0)) (counting 0 x)) size
       ∙ sym (fill-by-all (packedPlace (replicate n 0) (replicate m 0)) (replicate n blank) n blank (length-replicate n blank)
       (λ k hk. getD-replicate n k blank blank hk ∙ blank-place k hk))
 
-pub packed-zeroed : (n m s : ℕ) (vs ps : List ℕ) → n ≡ min s 524288 → m ≡ (n + 15) / 16 → vs ≡ replicate n 0 → ps ≡ replicate m 0 → packed vs ps ≡ replicate (min s 524288) blank
-packed-zeroed n m s vs ps e f v p = rw (v, p, ← e) (filled n m (omega arith) (omega arith))
+pub packed-zeroed : (n : ℕ) (vs ps : List ℕ) → n ≤ 524288 → vs ≡ replicate n 0 → ps ≡ replicate ((n + 15) / 16) 0 → packed vs ps ≡ replicate n blank
+packed-zeroed n vs ps h v p = rw (v, p) (packed-blank n ((n + 15) / 16) h (omega arith))

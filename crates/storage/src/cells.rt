@@ -28,7 +28,14 @@ impl CellStorage {
     pub fn zeroed(heap: Global, size: u32) -> Result<CellStorage, AllocError>
         ensures { λ r. ⌜ made r (λ s. places (vec-items (s .cells)) ≡ replicate (min size 524288) blank) ⌝ }
     {
-        let count = size.min(524_288);
+        CellStorage::blanks(heap, size.min(524_288))
+    }
+
+    // So many such places. The parity bit of a zero is one.
+    fn blanks(heap: Global, count: u32) -> Result<CellStorage, AllocError>
+        requires { ⌜ count ≤ 524288 ⌝ }
+        ensures { λ r. ⌜ made r (λ s. places (vec-items (s .cells)) ≡ replicate count blank) ⌝ }
+    {
         let cells = vec![in heap; 0x1_0000u32; count as usize]?;
         Ok(CellStorage { cells })
     }

@@ -31,7 +31,14 @@ impl PackedStorage {
     pub fn zeroed(heap: Global, size: u32) -> Result<PackedStorage, AllocError>
         ensures { λ r. ⌜ made r (λ s. places (vec-items (s .values)) (vec-items (s .protects)) ≡ replicate (min size 524288) blank) ⌝ }
     {
-        let count = size.min(524_288);
+        PackedStorage::blanks(heap, size.min(524_288))
+    }
+
+    // So many such places.
+    fn blanks(heap: Global, count: u32) -> Result<PackedStorage, AllocError>
+        requires { ⌜ count ≤ 524288 ⌝ }
+        ensures { λ r. ⌜ made r (λ s. places (vec-items (s .values)) (vec-items (s .protects)) ≡ replicate count blank) ⌝ }
+    {
         let values = vec![in heap; 0u16; count as usize]?;
         let protects = vec![in heap; 0u16; (count as usize + 15) / 16]?;
         Ok(PackedStorage { values, protects })
