@@ -1,6 +1,8 @@
 // What a processor holds: status word, both register sets, pending external levels, and its table of operations.
 ghost use mathlib.Core.Path.{_≡_};
+ghost use Rattle.processor.specs.Sectors.{Narrow};
 ghost use Rattle.processor.specs.State.{freshState, withTable, zeroRegisters};
+ghost use Rattle.sheet.specs.Tables.{Admitted};
 use sheet::operation::Operation;
 use sheet::table::Table;
 use word::psw::Psw;
@@ -39,7 +41,10 @@ fn zero_registers() -> RegisterSet
 impl State {
     // All zero, with an empty table.
     pub fn fresh() -> State
-        ensures { λ r. ⌜ r ≡ freshState ⌝ }
+        ensures fresh { λ r. ⌜ r ≡ freshState ⌝ }
+        ensures admitted { λ r. ⌜ Admitted (r .table) ⌝ }
+        ensures low { λ r. ⌜ Narrow (r .low .sectors) ⌝ }
+        ensures high { λ r. ⌜ Narrow (r .high .sectors) ⌝ }
     {
         let psw = Psw {
             counter: 0,

@@ -1,4 +1,5 @@
 pub mod Numbers
 pub mod Names
 pub mod Verbs
+pub mod Words
 pub mod Commands

@@ -21,3 +21,14 @@ writes radix limit bs = ltb 0 (length bs) && (digitsOnly radix bs && ltb (value 
 -- The number below the limit that the bytes write, or none.
 unfoldable pub numberIn : ℕ → ℕ → List ℕ → Option ℕ
 numberIn radix limit bs = cond (writes radix limit bs) (Some (value radix bs)) None
+
+-- A number before others, where there is none missing.
+abbrev pub before : Option ℕ → Option (List ℕ) → Option (List ℕ)
+before None ns = None
+before (Some n) None = None
+before (Some n) (Some ns) = Some (n ∷ ns)
+
+-- The numbers below the limit that the words write, or none.
+abbrev pub numbersIn : ℕ → ℕ → List (List ℕ) → Option (List ℕ)
+numbersIn radix limit [] = Some []
+numbersIn radix limit (w ∷ ws) = before (numberIn radix limit w) (numbersIn radix limit ws)

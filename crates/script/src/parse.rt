@@ -1,7 +1,6 @@
 // The commands, from the words after the verb.
 ghost use mathlib.Core.Path.{_≡_};
-ghost use Rattle.script.specs.Commands.{storageOf, cellOf, sheetOf, entryOf, depositOf, protectOf, examineOf, viewOf, OfVerb};
-ghost use Rattle.script.specs.declared.verb.Verb.the-variants as verb;
+ghost use Rattle.script.specs.Commands.{storageOf, cellOf, sheetOf, entryOf, depositOf, protectOf, examineOf, viewOf, Sound};
 use crate::command::Command;
 use crate::name;
 use crate::number;
@@ -9,8 +8,8 @@ use crate::read::Unread;
 
 // `storage KIND SIZE`.
 pub fn storage(kind: &str, size: &str) -> Result<Command, Unread>
-    ensures { λ r. ⌜ r ≡ storageOf (now (kind .entry)) (now (size .entry)) ⌝ }
-    ensures { λ r. ⌜ OfVerb verb.Storage r ⌝ }
+    ensures means { λ r. ⌜ r ≡ storageOf (now (kind .entry)) (now (size .entry)) ⌝ }
+    ensures sound { λ r. ⌜ Sound r ⌝ }
 {
     let kind = name::kind(kind).ok_or(Unread::Text)?;
     let size = number::decimal_u32(size).ok_or(Unread::Text)?;
@@ -19,8 +18,8 @@ pub fn storage(kind: &str, size: &str) -> Result<Command, Unread>
 
 // `cell ADDRESS RAW ..`.
 pub fn cell(address: &str, cells: Vec<u32>) -> Result<Command, Unread>
-    ensures { λ r. ⌜ r ≡ cellOf (now (address .entry)) cells ⌝ }
-    ensures { λ r. ⌜ OfVerb verb.Cell r ⌝ }
+    ensures means { λ r. ⌜ r ≡ cellOf (now (address .entry)) cells ⌝ }
+    ensures sound { λ r. ⌜ Sound r ⌝ }
 {
     let address = number::hex_u32(address).ok_or(Unread::Text)?;
     if cells.is_empty() || !number::fits(address, cells.len()) {
@@ -31,8 +30,8 @@ pub fn cell(address: &str, cells: Vec<u32>) -> Result<Command, Unread>
 
 // `sheet HALFWORD ..`.
 pub fn sheet(halfwords: Vec<u16>) -> Result<Command, Unread>
-    ensures { λ r. ⌜ r ≡ sheetOf halfwords ⌝ }
-    ensures { λ r. ⌜ OfVerb verb.Sheet r ⌝ }
+    ensures means { λ r. ⌜ r ≡ sheetOf halfwords ⌝ }
+    ensures sound { λ r. ⌜ Sound r ⌝ }
 {
     if halfwords.is_empty() {
         return Err(Unread::Text);
@@ -42,8 +41,8 @@ pub fn sheet(halfwords: Vec<u16>) -> Result<Command, Unread>
 
 // `entry KEY OPERATION`.
 pub fn entry(key: &str, operation: &str) -> Result<Command, Unread>
-    ensures { λ r. ⌜ r ≡ entryOf (now (key .entry)) (now (operation .entry)) ⌝ }
-    ensures { λ r. ⌜ OfVerb verb.Entry r ⌝ }
+    ensures means { λ r. ⌜ r ≡ entryOf (now (key .entry)) (now (operation .entry)) ⌝ }
+    ensures sound { λ r. ⌜ Sound r ⌝ }
 {
     let key = number::hex_u16(key).ok_or(Unread::Text)?;
     let number = name::operation_number(operation).ok_or(Unread::Text)?;
@@ -52,8 +51,8 @@ pub fn entry(key: &str, operation: &str) -> Result<Command, Unread>
 
 // `deposit ADDRESS VALUE ..`.
 pub fn deposit(address: &str, values: Vec<u16>) -> Result<Command, Unread>
-    ensures { λ r. ⌜ r ≡ depositOf (now (address .entry)) values ⌝ }
-    ensures { λ r. ⌜ OfVerb verb.Deposit r ⌝ }
+    ensures means { λ r. ⌜ r ≡ depositOf (now (address .entry)) values ⌝ }
+    ensures sound { λ r. ⌜ Sound r ⌝ }
 {
     let address = number::hex_u32(address).ok_or(Unread::Text)?;
     if values.is_empty() || !number::fits(address, values.len()) {
@@ -64,8 +63,8 @@ pub fn deposit(address: &str, values: Vec<u16>) -> Result<Command, Unread>
 
 // `protect ADDRESS BIT COUNT`.
 pub fn protect(address: &str, bit: &str, count: &str) -> Result<Command, Unread>
-    ensures { λ r. ⌜ r ≡ protectOf (now (address .entry)) (now (bit .entry)) (now (count .entry)) ⌝ }
-    ensures { λ r. ⌜ OfVerb verb.Protect r ⌝ }
+    ensures means { λ r. ⌜ r ≡ protectOf (now (address .entry)) (now (bit .entry)) (now (count .entry)) ⌝ }
+    ensures sound { λ r. ⌜ Sound r ⌝ }
 {
     let address = number::hex_u32(address).ok_or(Unread::Text)?;
     let bit = name::bit(bit).ok_or(Unread::Text)?;
@@ -82,8 +81,8 @@ pub fn protect(address: &str, bit: &str, count: &str) -> Result<Command, Unread>
 
 // `examine ADDRESS COUNT`.
 pub fn examine(address: &str, count: &str) -> Result<Command, Unread>
-    ensures { λ r. ⌜ r ≡ examineOf (now (address .entry)) (now (count .entry)) ⌝ }
-    ensures { λ r. ⌜ OfVerb verb.Examine r ⌝ }
+    ensures means { λ r. ⌜ r ≡ examineOf (now (address .entry)) (now (count .entry)) ⌝ }
+    ensures sound { λ r. ⌜ Sound r ⌝ }
 {
     let address = number::hex_u32(address).ok_or(Unread::Text)?;
     let count = number::decimal_u32(count).ok_or(Unread::Text)?;
@@ -95,8 +94,8 @@ pub fn examine(address: &str, count: &str) -> Result<Command, Unread>
 
 // `view ADDRESS COUNT`.
 pub fn view(address: &str, count: &str) -> Result<Command, Unread>
-    ensures { λ r. ⌜ r ≡ viewOf (now (address .entry)) (now (count .entry)) ⌝ }
-    ensures { λ r. ⌜ OfVerb verb.View r ⌝ }
+    ensures means { λ r. ⌜ r ≡ viewOf (now (address .entry)) (now (count .entry)) ⌝ }
+    ensures sound { λ r. ⌜ Sound r ⌝ }
 {
     let address = number::hex_u32(address).ok_or(Unread::Text)?;
     let count = number::decimal_u32(count).ok_or(Unread::Text)?;

@@ -16,14 +16,20 @@ pub struct Table {
     ghost admitted: { Admitted entries },
 }
 
+// No operation at any key.
+fn no_operations() -> [Option<Operation>; 1280]
+    ensures { λ r. ⌜ r ≡ emptyEntries ⌝ }
+{
+    [None; 1280]
+}
+
 impl Table {
     // The table with no operation at any key.
     pub fn empty() -> Table
         ensures { λ r. ⌜ r .entries ≡ emptyEntries ⌝ }
     {
-        Table {
-            entries: [None; 1280],
-        }
+        let entries = no_operations();
+        Table { entries }
     }
 
     // The operation at a key, or none.
@@ -41,7 +47,8 @@ impl Table {
     pub fn entries(&self) -> [Option<Operation>; 1280]
         ensures { λ r. ⌜ r ≡ now (self .entry) .entries ⌝ }
     {
-        self.entries
+        let Table { entries } = *self;
+        entries
     }
 
     // Puts an operation at a key whose class admits it.

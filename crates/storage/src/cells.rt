@@ -117,12 +117,28 @@ fn with_protect(cell: u32, bit: bool) -> u32
     (cell >> 18 << 1 | u32::from(bit)) << 17 | cell & 0x1_ffff
 }
 
-// The marks of cell 1, which is sound, and of cell 3, which is not.
+// Cell 1 holds one 1, and is sound.
+fn mark_of_1() -> bool
+    ensures mark { λ r. ⌜ r ≡ cellOf 1 .sound ⌝ }
+    ensures answer { λ r. ⌜ r ≡ true ⌝ }
+{
+    is_sound(1)
+}
+
+// Cell 3 holds two ones, and is not.
+fn mark_of_3() -> bool
+    ensures mark { λ r. ⌜ r ≡ cellOf 3 .sound ⌝ }
+    ensures answer { λ r. ⌜ r ≡ false ⌝ }
+{
+    is_sound(3)
+}
+
+// The marks of cells 1 and 3.
 pub fn example_marks() -> (bool, bool)
     ensures marks { λ r. ⌜ r ≡ (cellOf 1 .sound, cellOf 3 .sound) ⌝ }
     ensures answer { λ r. ⌜ r ≡ (true, false) ⌝ }
 {
-    (is_sound(1), is_sound(3))
+    (mark_of_1(), mark_of_3())
 }
 
 pub impl Storage for CellStorage as CellStorageStorage {

@@ -71,7 +71,12 @@ fn is_entry(read: Result<Command, Unread>, key: u16, number: u16) -> bool {
 
 fn is_view(read: Result<Command, Unread>, address: u32, count: u32) -> bool {
     match read {
-        Ok(Command::View { address: a, count: n }) => a == address && n == count,
+        Ok(
+            Command::View {
+                address: a,
+                count: n,
+            },
+        ) => a == address && n == count,
         _ => false,
     }
 }
@@ -81,7 +86,11 @@ fn read(rt: LibcRuntime) -> Result<(), Fail> {
     for line in ["", "   ", "# load", "  \t# deposit 80"] {
         check(is_blank(read_line(rt.alloc(), line))).note(line)?;
     }
-    for (line, key, number) in [("entry 4ff ISPB", 0x4ff, 34), ("entry FFFF 65535", 0xffff, 0xffff), ("entry 0 0007# C", 0, 7)] {
+    for (line, key, number) in [
+        ("entry 4ff ISPB", 0x4ff, 34),
+        ("entry FFFF 65535", 0xffff, 0xffff),
+        ("entry 0 0007# C", 0, 7),
+    ] {
         check(is_entry(read_line(rt.alloc(), line), key, number)).note(line)?;
     }
     for (line, address, count) in [

@@ -43,7 +43,11 @@ fn shapes(rt: LibcRuntime) -> Result<(), Fail> {
     refused(&counted(rt.alloc(), 1281, 1281)?, 1, 0)?;
     refused(&counted(rt.alloc(), 1279, 1280)?, 1, 0)?;
     refused(&counted(rt.alloc(), 0xffff, 1280)?, 1, 0)?;
-    check(Stopped::new().load(&counted(rt.alloc(), 1280, 1280)?).is_ok())
+    check(
+        Stopped::new()
+            .load(&counted(rt.alloc(), 1280, 1280)?)
+            .is_ok(),
+    )
 }
 
 #[test]
@@ -79,8 +83,47 @@ fn tables() -> Result<(), Fail> {
 #[test]
 fn operations() -> Result<(), Fail> {
     let admitted: [u32; 41] = [
-        0, 11111, 10011, 11111, 10011, 11111, 10011, 11111, 10011, 0, 11111, 11111, 11111, 10011, 10011, 10011, 11, 1111,
-        1111, 1111, 1111, 0, 0, 10000, 10000, 10000, 1100, 1100, 0, 0, 0, 11, 11, 0, 11, 1100, 0, 0, 0, 0, 0,
+        0,
+        11111,
+        10011,
+        11111,
+        10011,
+        11111,
+        10011,
+        11111,
+        10011,
+        0,
+        11111,
+        11111,
+        11111,
+        10011,
+        10011,
+        10011,
+        11,
+        1111,
+        1111,
+        1111,
+        1111,
+        0,
+        0,
+        10000,
+        10000,
+        10000,
+        1100,
+        1100,
+        0,
+        0,
+        0,
+        11,
+        11,
+        0,
+        11,
+        1100,
+        0,
+        0,
+        0,
+        0,
+        0,
     ];
     for (number, expected) in admitted.iter().enumerate() {
         let Some(operation) = Operation::from_number((number % 65_536) as u16) else {
@@ -89,7 +132,9 @@ fn operations() -> Result<(), Fail> {
         };
         let mut classes = 0u32;
         for class in 0..6u16 {
-            classes = classes.wrapping_mul(10).wrapping_add(u32::from(operation.admits(class)));
+            classes = classes
+                .wrapping_mul(10)
+                .wrapping_add(u32::from(operation.admits(class)));
         }
         check_eq(classes, expected.wrapping_mul(10)).note("class 5 is none")?;
         check_eq(usize::from(operation.number()), number)?;

@@ -38,13 +38,19 @@ fn longest(rt: LibcRuntime) -> Result<(), Fail> {
     let cells = s.into_cells();
     check_eq(cells.get(524_287).copied(), Some(1))?;
     check_eq(cells.get(524_288).copied(), Some(5))?;
-    let s = PackedStorage::new(vec![in rt.alloc(); 0u16; 524_290]?, vec![in rt.alloc(); 0u16; 32_769]?);
+    let s = PackedStorage::new(
+        vec![in rt.alloc(); 0u16; 524_290]?,
+        vec![in rt.alloc(); 0u16; 32_769]?,
+    );
     check_eq(s.size(), 524_288)
 }
 
 #[test]
 fn packed(rt: LibcRuntime) -> Result<(), Fail> {
-    let mut s = PackedStorage::new(vec![in rt.alloc(); 0u16; 40]?, vec![in rt.alloc(); 0u16, 0x00ff]?);
+    let mut s = PackedStorage::new(
+        vec![in rt.alloc(); 0u16; 40]?,
+        vec![in rt.alloc(); 0u16, 0x00ff]?,
+    );
     check_eq(s.size(), 32).note("two halfwords of protect bits")?;
     check(s.guard(0, true) && s.guard(15, true) && s.guard(16, true) && s.guard(31, false))?;
     check(!s.guard(32, true))?;

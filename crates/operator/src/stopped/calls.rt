@@ -18,9 +18,8 @@ impl Stopped {
     pub fn new() -> Stopped
         ensures { λ r. ⌜ r .state ≡ freshState ⌝ }
     {
-        Stopped {
-            state: State::fresh(),
-        }
+        let state = State::fresh();
+        Stopped { state }
     }
 
     // Fills the table from a code sheet; a refused sheet leaves it as it was.

@@ -1,6 +1,6 @@
 use borrow.Author.Needs.{needs}
 use lib.Count.{ones, onesIn}
-use Rattle.storage.proofs.cells.example_marks.Needs as need
+use Rattle.storage.proofs.cells.mark_of_3.Needs as need
 
 pub returns : need.returns
 unfolding ones onesIn
