@@ -16,7 +16,7 @@ abbrev pub kindText : Kind → List ℕ
 kindText Cells = codes "cells"
 kindText Packed = codes "packed"
 
--- A protection bit as a digit.
+-- A protect bit as a digit.
 abbrev pub bitText : Bool → List ℕ
 bitText bit = cond bit (codes "1") (codes "0")
 

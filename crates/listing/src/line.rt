@@ -26,7 +26,7 @@ pub enum Line {
     Load(Answer),
     // A value was deposited at an address.
     Deposit(u32, u16, Answer),
-    // The protection bit of an address was set.
+    // The protect bit of an address was set.
     Protect(u32, bool, Answer),
     // The value at an address was read.
     Examine(u32, Answer),
@@ -52,7 +52,7 @@ pub impl fmt::Display for Kind as KindDisplay {
     }
 }
 
-// A protection bit as a digit.
+// A protect bit as a digit.
 fn bit_digit(bit: bool) -> &'static str
     ensures { λ r. ⌜ now r ≡ bitText bit ⌝ }
 {

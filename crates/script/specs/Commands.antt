@@ -126,7 +126,7 @@ abbrev pub stretch : (List ℕ → List ℕ → Result Command Unread) → List 
 stretch f [] = Err Text
 stretch f (w ∷ ws) = counted (f w) ws
 
--- An address, a protection bit, and a count that may be left out.
+-- An address, a protect bit, and a count that may be left out.
 abbrev pub guarded : List (List ℕ) → Result Command Unread
 guarded [] = Err Text
 guarded (w ∷ ws) = stretch (protectOf w) ws

@@ -34,6 +34,6 @@ operationNumber bs = numberOr (operationNamed bs) (numberIn 10 (2 ^ 16) bs)
 abbrev pub kindNamed : List ℕ → Option Kind
 kindNamed bs = named kindText (Cells ∷ Packed ∷ []) bs
 
--- The protection bit with a digit, or none.
+-- The protect bit with a digit, or none.
 abbrev pub bitNamed : List ℕ → Option Bool
 bitNamed bs = named bitText (false ∷ true ∷ []) bs

@@ -20,7 +20,7 @@ pub enum Command {
     Load,
     // Deposit values, from an address on.
     Deposit { address: u32, values: Vec<u16> },
-    // Set the protection bit of a stretch of places.
+    // Set the protect bit of a stretch of places.
     Protect { address: u32, bit: bool, count: u32 },
     // Read a stretch of places.
     Examine { address: u32, count: u32 },

@@ -1,4 +1,4 @@
-// The words that stand for a value: names of operations, kinds of storage and protection bits.
+// The words that stand for a value: names of operations, kinds of storage and protect bits.
 ghost use mathlib.Core.Path.{_≡_};
 ghost use Rattle.script.specs.Names.{operationNamed, operationNumber, kindNamed, bitNamed};
 use crate::number;
@@ -63,7 +63,7 @@ pub fn kind(word: &str) -> Option<Kind>
     }
 }
 
-// The protection bit that a word is, if it is one.
+// The protect bit that a word is, if it is one.
 pub fn bit(word: &str) -> Option<bool>
     ensures { λ r. ⌜ r ≡ bitNamed (now (word .entry)) ⌝ }
 {
