@@ -1,5 +1,5 @@
 // Why a session ends early.
-use script::read::Unread;
+use script::unread::Unread;
 use std::alloc::AllocError;
 use std::alloc::Refused;
 use std::fmt;

@@ -1,4 +1,12 @@
 // A session: a stopped processor beside its storage, and the commands of the script performed on them.
+ghost use mathlib.Core.Bool.{false};
+ghost use mathlib.Core.Path.{_≡_};
+ghost use lib.ListN.{replicate};
+ghost use Rattle.console.specs.Store.{meaningOf};
+ghost use Rattle.processor.specs.State.{freshState};
+ghost use Rattle.std.specs.Vec.{made};
+ghost use Rattle.storage.specs.Meaning.{blank};
+
 pub mod lines;
 
 use crate::calls;
@@ -30,8 +38,13 @@ pub struct Session {
 }
 
 impl Session {
-    // A fresh processor beside 4,096 cells.
-    pub fn new(heap: Global) -> Result<Session, Failure> {
+    // A fresh processor beside 4,096 cells, and no line performed.
+    pub fn new(heap: Global) -> Result<Session, Failure>
+        ensures processor { λ r. ⌜ made r (λ s. s .processor .state ≡ freshState) ⌝ }
+        ensures storage { λ r. ⌜ made r (λ s. meaningOf (s .store) ≡ replicate 4096 blank) ⌝ }
+        ensures lines { λ r. ⌜ made r (λ s. s .lines ≡ 0) ⌝ }
+        ensures flags { λ r. ⌜ made r (λ s. (s .chosen ≡ false) × (s .called ≡ false)) ⌝ }
+    {
         Ok(Session {
             processor: Stopped::new(),
             store: Store::zeroed(heap, Kind::Cells, 4096)?,

@@ -1,182 +1,148 @@
 -- What the lines of the script say.
 use mathlib.Core.Path.{_≡_}
 use mathlib.Core.Bool.{Bool, cond, _&&_}
-use mathlib.Core.List.{List, [], _∷_}
-use Prim.Native.Nat.{ℕ, _+_, _^_, _<_, _≤_}
+use mathlib.Core.List.{List}
+use Prim.Native.Nat.{ℕ, _+_, _^_}
 use lib.Chars.{codes}
-use lib.Dec.{ltb, leb}
+use lib.Dec.{eqb, ltb, leb}
+use lib.ListN.{drop, length}
 use Rattle.std.specs.Of.String.{string-bytes}
-use Rattle.std.specs.Of.Vec.{vec-len, vec-items}
-use Rattle.std.specs.declared.string.String.{String}
-use Rattle.std.specs.declared.vec.Vec.{Vec}
-use Rattle.std.specs.declared.alloc.Global.{Global}
+use Rattle.std.specs.Of.Vec.{vec-items}
 use Rattle.std.specs.declared.result.Result.{Result}
 use Rattle.std.specs.declared.result.Result.the-variants.{Ok, Err}
 use Rattle.std.specs.declared.option.Option.{Option}
 use Rattle.std.specs.declared.option.Option.the-variants.{Some, None}
+use Rattle.listing.specs.declared.line.Kind.{Kind}
 use Rattle.script.specs.Numbers.{numberIn, numbersIn}
-use Rattle.script.specs.Words.{Uncommented, Firsts, Words}
+use Rattle.script.specs.Words.{LineWords, wordAt}
 use Rattle.script.specs.Names.{kindNamed, bitNamed, operationNumber}
 use Rattle.script.specs.Verbs.{verbOf}
 use Rattle.script.specs.declared.verb.Verb.{Verb}
 use Rattle.script.specs.declared.verb.Verb.the-variants as verb
-use Rattle.script.specs.declared.read.Unread.{Unread}
-use Rattle.script.specs.declared.read.Unread.the-variants.{Memory, Text}
+use Rattle.script.specs.declared.unread.Unread.{Unread}
+use Rattle.script.specs.declared.unread.Unread.the-variants.{Memory, Text}
 use Rattle.script.specs.declared.command.Command.{Command}
 use Rattle.script.specs.declared.command.Command.the-variants.{Blank, Storage, Cell, Sheet, Entry, Do, Load, Deposit, Protect, Examine, View}
 
--- What is made of a word's value; a line with a word that has none cannot be read.
-abbrev pub given : {V : Type 0} → Option V → (V → Result Command Unread) → Result Command Unread
+-- What a line says.
+pub data Said : Type 0 where
+  blank : Said
+  storage : Kind → ℕ → Said
+  cell : ℕ → List ℕ → Said
+  sheet : List ℕ → Said
+  entry : ℕ → ℕ → Said
+  perform : List ℕ → Said
+  load : Said
+  deposit : ℕ → List ℕ → Said
+  protect : ℕ → Bool → ℕ → Said
+  examine : ℕ → ℕ → Said
+  view : ℕ → ℕ → Said
+
+-- What a command of the code says.
+abbrev pub told : Command → Said
+told Blank = blank
+told (Storage kind size) = storage kind size
+told (Cell address cells) = cell address (vec-items cells)
+told (Sheet halfwords) = sheet (vec-items halfwords)
+told (Entry key number) = entry key number
+told (Do file) = perform (string-bytes file)
+told Load = load
+told (Deposit address values) = deposit address (vec-items values)
+told (Protect address bit count) = protect address bit count
+told (Examine address count) = examine address count
+told (View address count) = view address count
+
+-- The code's answer agrees with what is said; nothing is known where there was no memory.
+abbrev pub Agrees : Result Command Unread → Option Said → Type 0
+Agrees (Ok c) s = Some (told c) ≡ s
+Agrees (Err Text) s = None ≡ s
+Agrees (Err Memory) s = Unit {0}
+
+-- What follows from a value; nothing where there is none.
+abbrev pub given : {V : Type 0} → Option V → (V → Option Said) → Option Said
 given (Some v) f = f v
-given None f = Err Text
+given None f = None
 
--- A command where a rule is kept; else the line cannot be read.
-abbrev pub where-kept : Bool → Command → Result Command Unread
-where-kept kept c = cond kept (Ok c) (Err Text)
+-- What is said where a rule is kept.
+abbrev pub where-kept : Bool → Said → Option Said
+where-kept kept s = cond kept (Some s) None
 
--- Whether a stretch of places ends at address FFFFFFFF or below.
+-- What is said by a line of so many words, the verb among them.
+abbrev pub of-words : ℕ → List (List ℕ) → Option Said → Option Said
+of-words n ws s = cond (eqb (length ws) n) s None
+
+-- A stretch of places ends at address FFFFFFFF or below.
 abbrev pub fits : ℕ → ℕ → Bool
 fits address count = leb (address + count) 4294967296
 
--- A hexadecimal address or raw cell of 32 bits.
+-- A list of values has at least one, and its stretch fits.
+abbrev pub stretches : ℕ → List ℕ → Bool
+stretches address values = ltb 0 (length values) && fits address (length values)
+
+-- A hexadecimal address of 32 bits, and a decimal size or count.
 abbrev pub hex32 : List ℕ → Option ℕ
 hex32 bs = numberIn 16 (2 ^ 32) bs
 
--- A decimal size or count of 32 bits.
 abbrev pub decimal32 : List ℕ → Option ℕ
 decimal32 bs = numberIn 10 (2 ^ 32) bs
 
 -- `storage KIND SIZE`
-abbrev pub storageOf : List ℕ → List ℕ → Result Command Unread
-storageOf kind size = given (kindNamed kind) (λ k. given (decimal32 size) (λ n. Ok (Storage k n)))
+abbrev pub storageSaid : List ℕ → List ℕ → Option Said
+storageSaid kind size = given (kindNamed kind) (λ k. given (decimal32 size) (λ n. Some (storage k n)))
 
 -- `cell ADDRESS RAW ..`, with the raw cells read
-abbrev pub cellOf : List ℕ → Vec ℕ Global → Result Command Unread
-cellOf address cells = given (hex32 address) (λ a. where-kept (ltb 0 (vec-len cells) && fits a (vec-len cells)) (Cell a cells))
+abbrev pub cellSaid : List ℕ → List ℕ → Option Said
+cellSaid address cells = given (hex32 address) (λ a. where-kept (stretches a cells) (cell a cells))
 
 -- `sheet HALFWORD ..`, with the halfwords read
-abbrev pub sheetOf : Vec ℕ Global → Result Command Unread
-sheetOf halfwords = where-kept (ltb 0 (vec-len halfwords)) (Sheet halfwords)
+abbrev pub sheetSaid : List ℕ → Option Said
+sheetSaid halfwords = where-kept (ltb 0 (length halfwords)) (sheet halfwords)
 
 -- `entry KEY OPERATION`
-abbrev pub entryOf : List ℕ → List ℕ → Result Command Unread
-entryOf key operation = given (numberIn 16 (2 ^ 16) key) (λ k. given (operationNumber operation) (λ n. Ok (Entry k n)))
+abbrev pub entrySaid : List ℕ → List ℕ → Option Said
+entrySaid key operation =
+    given (numberIn 16 (2 ^ 16) key) (λ k. given (operationNumber operation) (λ n. Some (entry k n)))
 
 -- `deposit ADDRESS VALUE ..`, with the values read
-abbrev pub depositOf : List ℕ → Vec ℕ Global → Result Command Unread
-depositOf address values = given (hex32 address) (λ a. where-kept (ltb 0 (vec-len values) && fits a (vec-len values)) (Deposit a values))
+abbrev pub depositSaid : List ℕ → List ℕ → Option Said
+depositSaid address values = given (hex32 address) (λ a. where-kept (stretches a values) (deposit a values))
 
 -- `protect ADDRESS BIT COUNT`
-abbrev pub protectOf : List ℕ → List ℕ → List ℕ → Result Command Unread
-protectOf address bit count = given (hex32 address) (λ a. given (bitNamed bit) (λ b. given (decimal32 count) (λ n. where-kept (fits a n) (Protect a b n))))
+abbrev pub protectSaid : List ℕ → List ℕ → List ℕ → Option Said
+protectSaid address bit count =
+    given (hex32 address) (λ a. given (bitNamed bit) (λ b. given (decimal32 count) (λ n. where-kept (fits a n) (protect a b n))))
 
 -- `examine ADDRESS COUNT`
-abbrev pub examineOf : List ℕ → List ℕ → Result Command Unread
-examineOf address count = given (hex32 address) (λ a. given (decimal32 count) (λ n. where-kept (fits a n) (Examine a n)))
+abbrev pub examineSaid : List ℕ → List ℕ → Option Said
+examineSaid address count = given (hex32 address) (λ a. given (decimal32 count) (λ n. where-kept (fits a n) (examine a n)))
 
 -- `view ADDRESS COUNT`
-abbrev pub viewOf : List ℕ → List ℕ → Result Command Unread
-viewOf address count = given (hex32 address) (λ a. given (decimal32 count) (λ n. where-kept (fits a n) (View a n)))
+abbrev pub viewSaid : List ℕ → List ℕ → Option Said
+viewSaid address count = given (hex32 address) (λ a. given (decimal32 count) (λ n. where-kept (fits a n) (view a n)))
 
--- A stretch of places ends at address FFFFFFFF or below.
-abbrev pub Fits : ℕ → ℕ → Type 0
-Fits address count = address + count ≤ 4294967296
+-- What the words of a line say that begins with a verb. A count that is left out is 1.
+abbrev pub saidBy : Verb → List (List ℕ) → Option Said
+saidBy verb.Storage ws = of-words 3 ws (storageSaid (wordAt ws 1) (wordAt ws 2))
+saidBy verb.Cell ws = given (numbersIn 16 (2 ^ 32) (drop 2 ws)) (cellSaid (wordAt ws 1))
+saidBy verb.Sheet ws = given (numbersIn 16 (2 ^ 16) (drop 1 ws)) sheetSaid
+saidBy verb.Entry ws = of-words 3 ws (entrySaid (wordAt ws 1) (wordAt ws 2))
+saidBy verb.Do ws = of-words 2 ws (Some (perform (wordAt ws 1)))
+saidBy verb.Load ws = of-words 1 ws (Some load)
+saidBy verb.Deposit ws = given (numbersIn 16 (2 ^ 16) (drop 2 ws)) (depositSaid (wordAt ws 1))
+saidBy verb.Protect ws =
+    cond (eqb (length ws) 3) (protectSaid (wordAt ws 1) (wordAt ws 2) (codes "1"))
+    (of-words 4 ws (protectSaid (wordAt ws 1) (wordAt ws 2) (wordAt ws 3)))
+saidBy verb.Examine ws =
+    cond (eqb (length ws) 2) (examineSaid (wordAt ws 1) (codes "1")) (of-words 3 ws (examineSaid (wordAt ws 1) (wordAt ws 2)))
+saidBy verb.View ws =
+    cond (eqb (length ws) 2) (viewSaid (wordAt ws 1) (codes "1")) (of-words 3 ws (viewSaid (wordAt ws 1) (wordAt ws 2)))
 
--- A command's stretch fits, and its list has at least one value.
-abbrev pub WellFormed : Command → Type 0
-WellFormed Blank = Unit {0}
-WellFormed (Storage kind size) = Unit {0}
-WellFormed (Cell address cells) = (0 < vec-len cells) × Fits address (vec-len cells)
-WellFormed (Sheet halfwords) = 0 < vec-len halfwords
-WellFormed (Entry key number) = Unit {0}
-WellFormed (Do file) = Unit {0}
-WellFormed Load = Unit {0}
-WellFormed (Deposit address values) = (0 < vec-len values) × Fits address (vec-len values)
-WellFormed (Protect address bit count) = Fits address count
-WellFormed (Examine address count) = Fits address count
-WellFormed (View address count) = Fits address count
+-- What the words of a line say, or nothing where it cannot be read.
+abbrev pub saidIn : List (List ℕ) → Option Said
+saidIn ws = cond (eqb (length ws) 0) (Some blank) (given (verbOf (wordAt ws 0)) (λ v. saidBy v ws))
 
--- A command that was read is well formed.
-abbrev pub Sound : Result Command Unread → Type 0
-Sound (Ok c) = WellFormed c
-Sound (Err e) = Unit {0}
-
--- What is said with no word left; a word too many cannot be read.
-abbrev pub none : Result Command Unread → List (List ℕ) → Result Command Unread
-none r [] = r
-none r (w ∷ ws) = Err Text
-
--- What one word says; a word too few or too many cannot be read.
-abbrev pub one : (List ℕ → Result Command Unread) → List (List ℕ) → Result Command Unread
-one f [] = Err Text
-one f (w ∷ ws) = none (f w) ws
-
--- What two words say.
-abbrev pub two : (List ℕ → List ℕ → Result Command Unread) → List (List ℕ) → Result Command Unread
-two f [] = Err Text
-two f (w ∷ ws) = one (f w) ws
-
--- A count that may be left out, and is 1 then.
-abbrev pub counted : (List ℕ → Result Command Unread) → List (List ℕ) → Result Command Unread
-counted f [] = f (codes "1")
-counted f (w ∷ ws) = none (f w) ws
-
--- An address, and a count that may be left out.
-abbrev pub stretch : (List ℕ → List ℕ → Result Command Unread) → List (List ℕ) → Result Command Unread
-stretch f [] = Err Text
-stretch f (w ∷ ws) = counted (f w) ws
-
--- An address, a protect bit, and a count that may be left out.
-abbrev pub guarded : List (List ℕ) → Result Command Unread
-guarded [] = Err Text
-guarded (w ∷ ws) = stretch (protectOf w) ws
-
--- The file that one word names.
-abbrev pub FileNamed : List (List ℕ) → Command → Type 0
-FileNamed ws c = (file : String Global) × (ws ≡ string-bytes file ∷ []) × (c ≡ Do file)
-
--- The command that is made of the halfwords that the words write.
-abbrev pub Halfwords : List (List ℕ) → (Vec ℕ Global → Result Command Unread) → Command → Type 0
-Halfwords ws f c = (values : Vec ℕ Global) × (numbersIn 16 (2 ^ 16) ws ≡ Some (vec-items values)) × (f values ≡ Ok c)
-
--- The command that is made of the raw cells that the words write.
-abbrev pub Cells : List (List ℕ) → (Vec ℕ Global → Result Command Unread) → Command → Type 0
-Cells ws f c = (values : Vec ℕ Global) × (numbersIn 16 (2 ^ 32) ws ≡ Some (vec-items values)) × (f values ≡ Ok c)
-
--- A first word, and the words after it.
-abbrev pub Addressed : List (List ℕ) → (List ℕ → List (List ℕ) → Type 0) → Type 0
-Addressed [] P = ⊥
-Addressed (w ∷ ws) P = P w ws
-
--- The command that the words after a verb say.
-abbrev pub Says : Verb → List (List ℕ) → Command → Type 0
-Says verb.Storage ws c = two storageOf ws ≡ Ok c
-Says verb.Cell ws c = Addressed ws (λ a vs. Cells vs (cellOf a) c)
-Says verb.Sheet ws c = Halfwords ws sheetOf c
-Says verb.Entry ws c = two entryOf ws ≡ Ok c
-Says verb.Do ws c = FileNamed ws c
-Says verb.Load ws c = none (Ok Load) ws ≡ Ok c
-Says verb.Deposit ws c = Addressed ws (λ a vs. Halfwords vs (depositOf a) c)
-Says verb.Protect ws c = guarded ws ≡ Ok c
-Says verb.Examine ws c = stretch examineOf ws ≡ Ok c
-Says verb.View ws c = stretch viewOf ws ≡ Ok c
-
--- The command that the words of a line say.
-abbrev pub Means : List (List ℕ) → Command → Type 0
-Means [] c = c ≡ Blank
-Means (w ∷ ws) c = (v : Verb) × (verbOf w ≡ Some v) × Says v ws c
-
--- A command that was read after a verb is well formed, and is what the words say that were taken.
-abbrev pub Obeys : Verb → List ℕ → Result Command Unread → List ℕ → Type 0
-Obeys v text (Ok c) rest = WellFormed c × ((ws : List (List ℕ)) × Firsts text ws rest × Says v ws c)
-Obeys v text (Err e) rest = Unit {0}
-
--- A command that was read is well formed, and is what the words of the line say.
-abbrev pub ReadFrom : List ℕ → Result Command Unread → Type 0
-ReadFrom line (Ok c) = WellFormed c × ((body : List ℕ) × (ws : List (List ℕ)) × Uncommented line body × Words body ws × Means ws c)
-ReadFrom line (Err e) = Unit {0}
-
--- The numbers of a list that was read are those that the words write that were taken.
-abbrev pub Listed : ℕ → List ℕ → Result (Vec ℕ Global) Unread → List ℕ → Type 0
-Listed limit text (Ok values) rest = (ws : List (List ℕ)) × Firsts text ws rest × (numbersIn 16 limit ws ≡ Some (vec-items values))
-Listed limit text (Err e) rest = Unit {0}
+-- A command is what the words of the line say, and a line cannot be read where its words say nothing.
+abbrev pub ReadAs : List ℕ → Result Command Unread → Type 0
+ReadAs line (Ok c) = (ws : List (List ℕ)) × LineWords line ws × (Some (told c) ≡ saidIn ws)
+ReadAs line (Err Text) = (ws : List (List ℕ)) × LineWords line ws × (None ≡ saidIn ws)
+ReadAs line (Err Memory) = Unit {0}

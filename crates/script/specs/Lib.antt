@@ -3,3 +3,4 @@ pub mod Names
 pub mod Verbs
 pub mod Words
 pub mod Commands
+pub mod Read

@@ -3,7 +3,8 @@ use mathlib.Core.Path.{_≡_}
 use mathlib.Core.Logic.{_⊎_}
 use mathlib.Core.List.{List, [], _∷_, _++_}
 use Prim.Native.Nat.{ℕ, _<_}
-use lib.ListN.{length}
+use denote.Ref.{RefT}
+use lib.ListN.{length, getD}
 use Rattle.std.specs.Pieces.{Lacks}
 use Rattle.std.specs.Words.{Without, Opens, white, dark}
 
@@ -23,3 +24,16 @@ Firsts text (w ∷ ws) rest = (after : List ℕ) × First text w after × Firsts
 -- The words of a text are ws.
 abbrev pub Words : List ℕ → List (List ℕ) → Type 0
 Words text ws = (rest : List ℕ) × Firsts text ws rest × Without dark rest
+
+-- The words of a line are ws: those before its comment.
+abbrev pub LineWords : List ℕ → List (List ℕ) → Type 0
+LineWords line ws = (body : List ℕ) × Uncommented line body × Words body ws
+
+-- What each of some words holds.
+abbrev pub texts : List (RefT (List ℕ)) → List (List ℕ)
+texts [] = []
+texts (w ∷ ws) = w .now ∷ texts ws
+
+-- The word with a number, counted from 0; no bytes where there is none.
+abbrev pub wordAt : List (List ℕ) → ℕ → List ℕ
+wordAt ws i = getD ws i []

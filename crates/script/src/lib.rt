@@ -4,4 +4,6 @@ mod name;
 mod number;
 mod parse;
 pub mod read;
+pub mod unread;
 mod verb;
+mod words;

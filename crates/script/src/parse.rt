@@ -1,15 +1,14 @@
 // The commands, from the words after the verb.
-ghost use mathlib.Core.Path.{_≡_};
-ghost use Rattle.script.specs.Commands.{storageOf, cellOf, sheetOf, entryOf, depositOf, protectOf, examineOf, viewOf, Sound};
+ghost use Rattle.script.specs.Commands.{Agrees, cellSaid, depositSaid, entrySaid, examineSaid, protectSaid, sheetSaid, storageSaid, viewSaid};
+ghost use Rattle.std.specs.Of.Vec.{vec-items};
 use crate::command::Command;
 use crate::name;
 use crate::number;
-use crate::read::Unread;
+use crate::unread::Unread;
 
 // `storage KIND SIZE`.
 pub fn storage(kind: &str, size: &str) -> Result<Command, Unread>
-    ensures means { λ r. ⌜ r ≡ storageOf (now (kind .entry)) (now (size .entry)) ⌝ }
-    ensures sound { λ r. ⌜ Sound r ⌝ }
+    ensures { λ r. ⌜ Agrees r (storageSaid (now (kind .entry)) (now (size .entry))) ⌝ }
 {
     let kind = name::kind(kind).ok_or(Unread::Text)?;
     let size = number::decimal_u32(size).ok_or(Unread::Text)?;
@@ -18,8 +17,7 @@ pub fn storage(kind: &str, size: &str) -> Result<Command, Unread>
 
 // `cell ADDRESS RAW ..`.
 pub fn cell(address: &str, cells: Vec<u32>) -> Result<Command, Unread>
-    ensures means { λ r. ⌜ r ≡ cellOf (now (address .entry)) cells ⌝ }
-    ensures sound { λ r. ⌜ Sound r ⌝ }
+    ensures { λ r. ⌜ Agrees r (cellSaid (now (address .entry)) (vec-items cells)) ⌝ }
 {
     let address = number::hex_u32(address).ok_or(Unread::Text)?;
     if cells.is_empty() || !number::fits(address, cells.len()) {
@@ -30,8 +28,7 @@ pub fn cell(address: &str, cells: Vec<u32>) -> Result<Command, Unread>
 
 // `sheet HALFWORD ..`.
 pub fn sheet(halfwords: Vec<u16>) -> Result<Command, Unread>
-    ensures means { λ r. ⌜ r ≡ sheetOf halfwords ⌝ }
-    ensures sound { λ r. ⌜ Sound r ⌝ }
+    ensures { λ r. ⌜ Agrees r (sheetSaid (vec-items halfwords)) ⌝ }
 {
     if halfwords.is_empty() {
         return Err(Unread::Text);
@@ -41,8 +38,7 @@ pub fn sheet(halfwords: Vec<u16>) -> Result<Command, Unread>
 
 // `entry KEY OPERATION`.
 pub fn entry(key: &str, operation: &str) -> Result<Command, Unread>
-    ensures means { λ r. ⌜ r ≡ entryOf (now (key .entry)) (now (operation .entry)) ⌝ }
-    ensures sound { λ r. ⌜ Sound r ⌝ }
+    ensures { λ r. ⌜ Agrees r (entrySaid (now (key .entry)) (now (operation .entry))) ⌝ }
 {
     let key = number::hex_u16(key).ok_or(Unread::Text)?;
     let number = name::operation_number(operation).ok_or(Unread::Text)?;
@@ -51,8 +47,7 @@ pub fn entry(key: &str, operation: &str) -> Result<Command, Unread>
 
 // `deposit ADDRESS VALUE ..`.
 pub fn deposit(address: &str, values: Vec<u16>) -> Result<Command, Unread>
-    ensures means { λ r. ⌜ r ≡ depositOf (now (address .entry)) values ⌝ }
-    ensures sound { λ r. ⌜ Sound r ⌝ }
+    ensures { λ r. ⌜ Agrees r (depositSaid (now (address .entry)) (vec-items values)) ⌝ }
 {
     let address = number::hex_u32(address).ok_or(Unread::Text)?;
     if values.is_empty() || !number::fits(address, values.len()) {
@@ -63,8 +58,7 @@ pub fn deposit(address: &str, values: Vec<u16>) -> Result<Command, Unread>
 
 // `protect ADDRESS BIT COUNT`.
 pub fn protect(address: &str, bit: &str, count: &str) -> Result<Command, Unread>
-    ensures means { λ r. ⌜ r ≡ protectOf (now (address .entry)) (now (bit .entry)) (now (count .entry)) ⌝ }
-    ensures sound { λ r. ⌜ Sound r ⌝ }
+    ensures { λ r. ⌜ Agrees r (protectSaid (now (address .entry)) (now (bit .entry)) (now (count .entry))) ⌝ }
 {
     let address = number::hex_u32(address).ok_or(Unread::Text)?;
     let bit = name::bit(bit).ok_or(Unread::Text)?;
@@ -81,8 +75,7 @@ pub fn protect(address: &str, bit: &str, count: &str) -> Result<Command, Unread>
 
 // `examine ADDRESS COUNT`.
 pub fn examine(address: &str, count: &str) -> Result<Command, Unread>
-    ensures means { λ r. ⌜ r ≡ examineOf (now (address .entry)) (now (count .entry)) ⌝ }
-    ensures sound { λ r. ⌜ Sound r ⌝ }
+    ensures { λ r. ⌜ Agrees r (examineSaid (now (address .entry)) (now (count .entry))) ⌝ }
 {
     let address = number::hex_u32(address).ok_or(Unread::Text)?;
     let count = number::decimal_u32(count).ok_or(Unread::Text)?;
@@ -94,8 +87,7 @@ pub fn examine(address: &str, count: &str) -> Result<Command, Unread>
 
 // `view ADDRESS COUNT`.
 pub fn view(address: &str, count: &str) -> Result<Command, Unread>
-    ensures means { λ r. ⌜ r ≡ viewOf (now (address .entry)) (now (count .entry)) ⌝ }
-    ensures sound { λ r. ⌜ Sound r ⌝ }
+    ensures { λ r. ⌜ Agrees r (viewSaid (now (address .entry)) (now (count .entry))) ⌝ }
 {
     let address = number::hex_u32(address).ok_or(Unread::Text)?;
     let count = number::decimal_u32(count).ok_or(Unread::Text)?;

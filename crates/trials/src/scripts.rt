@@ -1,7 +1,7 @@
 // Lines of the script that can and cannot be read.
 use script::command::Command;
-use script::read::Unread;
 use script::read::read_line;
+use script::unread::Unread;
 use std::test::*;
 
 #[test]

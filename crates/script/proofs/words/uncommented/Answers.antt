@@ -3,7 +3,7 @@ use mathlib.Core.Logic.{inl, inr}
 use lib.Dec.{lit<}
 use Rattle.std.specs.declared.option.Option.the-variants.{Some, None}
 use Rattle.std.proofs.shelf.Patterns.{split-parts}
-use Rattle.script.proofs.read.uncommented.Needs as need
+use Rattle.script.proofs.words.uncommented.Needs as need
 
 pub returns-in-Some : need.returns-in-Some
 returns-in-Some c =
