@@ -78,6 +78,7 @@ impl Session {
         Ok(session)
     }
 
+    // Makes the storage that a `storage` line asks for.
     fn choose(
         &mut self,
         heap: Global,
@@ -94,6 +95,7 @@ impl Session {
         Ok(())
     }
 
+    // Puts the raw cells of a `cell` line.
     fn put_cells(self, address: u32, raw: &[u32]) -> Result<Session, Failure> {
         if self.called {
             return Err(Failure::Unread);
@@ -117,6 +119,7 @@ impl Session {
         })
     }
 
+    // Hands the sheet over, and begins another.
     fn load(&mut self, heap: Global, out: &mut String) -> Result<(), Failure> {
         self.called = true;
         let sheet = self.draft.sheet(heap)?;
@@ -125,6 +128,7 @@ impl Session {
         Ok(())
     }
 
+    // Deposits values one after another.
     fn deposit(&mut self, address: u32, values: &[u16], out: &mut String) -> Result<(), Failure> {
         self.called = true;
         let mut at = address;
@@ -135,6 +139,7 @@ impl Session {
         Ok(())
     }
 
+    // Sets the protect bits of a stretch of places.
     fn protect(
         &mut self,
         address: u32,
@@ -150,6 +155,7 @@ impl Session {
         Ok(())
     }
 
+    // Reads a stretch of places.
     fn examine(&mut self, address: u32, count: u32, out: &mut String) -> Result<(), Failure> {
         self.called = self.called || count > 0;
         for i in 0..count {
@@ -158,6 +164,7 @@ impl Session {
         Ok(())
     }
 
+    // Looks at a stretch of places.
     fn view(&self, address: u32, count: u32, out: &mut String) -> Result<(), Failure> {
         for i in 0..count {
             out.writeln(calls::view(&self.store, address.wrapping_add(i)))?;
