@@ -1,4 +1,7 @@
 // The program: performs an operator's script from a file, from standard input, or its own demonstration.
+
+#![tactic(auto)]
+
 mod demonstration;
 
 use console::failure::Failure;

@@ -17,8 +17,8 @@ pub enum Exchanged {
 
 // Closes an accepted command: takes a word on input, and gives the word on output.
 fn close<H: Host>(host: &mut H, token: Accepted, command: u32, word: u32) -> Exchanged
-    ensures answer { told result ≡ closed_answer (meaning host.old) command }
-    ensures after { meaning host.new ≡ closed_by (meaning host.old) command word }
+    ensures answer { told result ≡ closed_answer (H.meaning host.old) command }
+    ensures after { H.meaning host.new ≡ closed_by (H.meaning host.old) command word }
 {
     if is_input(command) {
         Exchanged::Taken(host.take(token))
@@ -30,8 +30,8 @@ fn close<H: Host>(host: &mut H, token: Accepted, command: u32, word: u32) -> Exc
 
 // Sends a command, and closes it if it is accepted.
 pub fn exchange<H: Host>(host: &mut H, command: u32, word: u32) -> Exchanged
-    ensures answer { told result ≡ exchange_answer (meaning host.old) command }
-    ensures after { meaning host.new ≡ exchanged (meaning host.old) command word }
+    ensures answer { told result ≡ exchange_answer (H.meaning host.old) command }
+    ensures after { H.meaning host.new ≡ exchanged (H.meaning host.old) command word }
 {
     match host.command(command) {
         Some(token) => close(host, token, command, word),

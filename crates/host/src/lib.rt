@@ -1,4 +1,7 @@
 // Hosts: what stands at the other end of a processor's commands.
+
+#![tactic(auto)]
+
 pub mod device;
 pub mod exchange;
 pub mod lists;

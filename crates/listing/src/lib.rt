@@ -1,4 +1,7 @@
 // The text of each line that the program prints.
+
+#![tactic(auto)]
+
 pub mod answer;
 pub mod line;
 pub mod number;

@@ -1,3 +1,6 @@
 // The operator's calls.
+
+#![tactic(auto)]
+
 mod reach;
 pub mod stopped;

@@ -8,7 +8,7 @@ use storage::Storage;
 
 // The storage is large enough, and the address lies in it.
 pub(crate) fn reach<S: Storage>(storage: &S, address: u32) -> Result<(), StorageFault>
-    ensures { told_storage result ≡ reached (meaning storage.now) address }
+    ensures { told_storage result ≡ reached (S.meaning storage.now) address }
 {
     let size = storage.size();
     if size < 256 {
@@ -22,7 +22,7 @@ pub(crate) fn reach<S: Storage>(storage: &S, address: u32) -> Result<(), Storage
 
 // The halfword at a sound place.
 pub(crate) fn sound_at<S: Storage>(storage: &S, address: u32) -> Result<u16, StorageFault>
-    ensures { told_storage result ≡ is_sound_at (meaning storage.now) address }
+    ensures { told_storage result ≡ is_sound_at (S.meaning storage.now) address }
 {
     match storage.read(address) {
         None => Err(StorageFault::Outside(address)),

@@ -1,2 +1,5 @@
 // The processor's state.
+
+#![tactic(auto)]
+
 pub mod state;

@@ -1,4 +1,7 @@
 // The operator's script: what one line of it says.
+
+#![tactic(auto)]
+
 pub mod command;
 mod name;
 mod number;

@@ -1,4 +1,7 @@
 // Scripts of the folder data/, each performed in a session of its own, with the status that the program would end with.
+
+#![tactic(auto)]
+
 use console::failure::Failure;
 use console::session::lines::play;
 use std::fs;

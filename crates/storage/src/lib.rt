@@ -1,4 +1,7 @@
 // Storage: halfwords, each with a protect bit and a mark, sound or unsound.
+
+#![tactic(auto)]
+
 ghost use Rattle.std.specs.Prelude.{◌≡◌, ◌≤◌, List, length};
 ghost use Rattle.storage.specs.Meaning.{Place, guarded, protected_of, read_of, within, written};
 

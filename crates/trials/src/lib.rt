@@ -1,4 +1,7 @@
 // Examples, executed: what the rules give for them is worked out by hand.
+
+#![tactic(auto)]
+
 #[cfg(test)]
 mod operators;
 #[cfg(test)]

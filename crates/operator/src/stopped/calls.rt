@@ -37,8 +37,8 @@ impl Stopped {
         address: u32,
         value: u16,
     ) -> Result<(), Refusal>
-        ensures answer { told result ≡ reached (meaning storage.old) address }
-        ensures after { meaning storage.new ≡ after_deposit (meaning storage.old) address value }
+        ensures answer { told result ≡ reached (S.meaning storage.old) address }
+        ensures after { S.meaning storage.new ≡ after_deposit (S.meaning storage.old) address value }
         ensures same { self.now.state ≡ self.now.state }
     {
         reach(storage, address)?;
@@ -53,8 +53,8 @@ impl Stopped {
         address: u32,
         bit: bool,
     ) -> Result<(), Refusal>
-        ensures answer { told result ≡ reached (meaning storage.old) address }
-        ensures after { meaning storage.new ≡ after_protect (meaning storage.old) address bit }
+        ensures answer { told result ≡ reached (S.meaning storage.old) address }
+        ensures after { S.meaning storage.new ≡ after_protect (S.meaning storage.old) address bit }
         ensures same { self.now.state ≡ self.now.state }
     {
         reach(storage, address)?;
@@ -64,8 +64,8 @@ impl Stopped {
 
     // Reads the halfword at a sound place.
     pub fn examine<S: Storage>(&self, storage: &S, address: u32) -> Result<u16, Refusal>
-        ensures answer { told result ≡ examine_answer (meaning storage.now) address }
-        ensures after { meaning storage.now ≡ meaning storage.now }
+        ensures answer { told result ≡ examine_answer (S.meaning storage.now) address }
+        ensures after { S.meaning storage.exit.now ≡ S.meaning storage.entry.now }
         ensures same { self.now.state ≡ self.now.state }
     {
         reach(storage, address)?;

@@ -6,12 +6,12 @@ use Rattle.script.specs.declared.unread.Unread.TheVariants.{Text}
 use Rattle.script.proofs.Taken.{joined, no_number, numbers_all, numbers_more, numbers_none}
 use Rattle.script.proofs.read.halfwords.Goals as goal
 
-pub returns-in-err-ok-or : goal.returns-in-err-ok-or
-returns-in-err-ok-or c =
+pub returns-in_err-ok_or : goal.returns-in_err-ok_or
+returns-in_err-ok_or c =
     let ws = texts c.args.words.now in
-    let p = err_from_is_err_and c.from-residual.result c.from-residual.ensures.1 in
-    let none : c.hex-u16.result ≡ None = c.in-err-ok-or.ensures.ok-part in
-    let text : c.in-err-ok-or.field-0.0 ≡ Text = no_number c.hex-u16.result c.in-err-ok-or.field-0.0 c.in-err-ok-or.ensures.value none in
+    let p = err_from_is_err_and c.from_residual.result c.from_residual.ensures.1 in
+    let none : c.hex_u16.result ≡ None = c.in_err-ok_or.ensures.ok-part in
+    let text : c.in_err-ok_or.field-0.0 ≡ Text = no_number c.hex_u16.result c.in_err-ok_or.field-0.0 c.in_err-ok_or.ensures.value none in
     let found : None ≡ number_in 16 (2 ^ 16) (word_at ws c.loop-i.i) = search rules in
     let h : c.loop-i.i < length ws = omega arith in
     rw (p.1, p.2, text) (numbers_none 16 (2 ^ 16) ws c.loop-i.i h (vec_items c.loop-i.all) found ∙ c.loop-i.invariant)
@@ -21,10 +21,10 @@ loop-i-preserved c =
     let ws = texts c.args.words.now in
     let i = c.loop-i.i in
     let ns = vec_items c.loop-i.all in
-    let n = c.in-ok-ok-or.field-0 in
+    let n = c.in_ok-ok_or.field-0 in
     let found : Some n ≡ number_in 16 (2 ^ 16) (word_at ws i) = search rules in
     let h : i < length ws = omega arith in
-    ap (λ (xs : List ℕ). joined xs (numbers_in 16 (2 ^ 16) (drop (i + 1) ws))) c.in-ok-push.ensures.items
+    ap (λ (xs : List ℕ). joined xs (numbers_in 16 (2 ^ 16) (drop (i + 1) ws))) c.in_ok-push.ensures.items
     ∙ (numbers_more 16 (2 ^ 16) ws i h ns n found ∙ c.loop-i.invariant)
 
 pub returns : goal.returns

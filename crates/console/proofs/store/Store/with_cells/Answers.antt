@@ -6,9 +6,9 @@ use Rattle.console.proofs.store.Store.with_cells.Goals as goal
 
 pub overlay-requires : goal.overlay-requires
 overlay-requires c =
-    let l = length-cells (vec_items c.into-cells-cells.result) in
-    let e : length (cells (vec_items c.into-cells-cells.result)) ≡ length (cells (vec_items c.in-Cells.storage.cells)) =
-    ap (λ (v : Vec ℕ Global). length (cells (vec_items v))) c.into-cells-cells.ensures
+    let l = length-cells (vec_items c.into_cells-cells.result) in
+    let e : length (cells (vec_items c.into_cells-cells.result)) ≡ length (cells (vec_items c.in-Cells.storage.cells)) =
+    ap (λ (v : Vec ℕ Global). length (cells (vec_items v))) c.into_cells-cells.ensures
     in
-    let k = c.into-cells-cells.result.ok in
+    let k = c.into_cells-cells.result.ok in
     omega arith

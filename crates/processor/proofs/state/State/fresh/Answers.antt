@@ -10,9 +10,9 @@ pub returns : goal.returns
 unfolding fresh_state
 returns c =
     let t : c.entries-table.result ≡ empty_entries = c.entries-table.ensures ∙ c.empty.ensures in
-    let made : State = record { psw = zero_psw; low = c.zero-registers.result; high = c.zero-registers-2.result; pending = no_levels; table = c.entries-table.result } in
+    let made : State = record { psw = zero_psw; low = c.zero_registers.result; high = c.zero_registers-2.result; pending = no_levels; table = c.entries-table.result } in
     let e : made ≡ fresh_state =
-    λ i. record { psw = zero_psw; low = c.zero-registers.ensures i; high = c.zero-registers-2.ensures i; pending = no_levels; table = t i }
+    λ i. record { psw = zero_psw; low = c.zero_registers.ensures i; high = c.zero_registers-2.ensures i; pending = no_levels; table = t i }
     in
     record {
       fresh = e;

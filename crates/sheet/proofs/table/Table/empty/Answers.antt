@@ -3,5 +3,5 @@ use Rattle.sheet.specs.Tables.{Admitted}
 use Rattle.sheet.proofs.Admitting.{admitted_empty}
 use Rattle.sheet.proofs.table.Table.empty.Goals as goal
 
-pub invariant-of-result : goal.invariant-of-result
-invariant-of-result c = (subst Admitted (sym c.no-operations-entries.ensures) admitted_empty, tt)
+pub invariant_of-result : goal.invariant_of-result
+invariant_of-result c = record { admitted = subst Admitted (sym c.no_operations-entries.ensures) admitted_empty }

@@ -4,11 +4,11 @@ use Rattle.sheet.specs.Tabled.{tabled}
 use Rattle.sheet.proofs.Filling.{fills}
 use Rattle.sheet.proofs.table.Table.from_sheet.Goals as goal
 
-pub returns-in-err-n : goal.returns-in-err-n
+pub returns-in_err-n : goal.returns-in_err-n
 unfolding table_of
-returns-in-err-n c =
+returns-in_err-n c =
     let s = c.args.sheet.now in
-    let e : tabled c.from-residual.result ≡ table_of s = search rules in
+    let e : tabled c.from_residual.result ≡ table_of s = search rules in
     record { answer = e; fills = subst (Fills s) (sym e) (fills s) }
 
 pub returns : goal.returns

@@ -6,23 +6,23 @@ use Rattle.sheet.proofs.Loading.{taken, entries_more, refusal_stays}
 use Rattle.sheet.proofs.table.reading.entries.Goals as goal
 
 -- The first entry that is refused decides.
-pub returns-in-err-operation : goal.returns-in-err-operation
-returns-in-err-operation c =
-    let p = err_from_is_err_and c.from-residual.result c.from-residual.ensures.1 in
-    let bad = sym c.in-err-operation.ensures in
+pub returns-in_err-operation : goal.returns-in_err-operation
+returns-in_err-operation c =
+    let p = err_from_is_err_and c.from_residual.result c.from_residual.ensures.1 in
+    let bad = sym c.in_err-operation.ensures in
     rw (p.1, p.2)
     (sym (refusal_stays c.args.sheet.now c.args.n c.args.n c.loop-i.i c.loop-i.table.entries _ c.loop-i-test.true c.loop-i.invariant bad))
 
 -- An entry that is taken may be put.
 pub put-requires : goal.put-requires
 put-requires c =
-    let q = taken c.args.sheet.now c.args.n c.loop-i.i c.in-ok-operation.operation (sym c.in-ok-operation.ensures) in
+    let q = taken c.args.sheet.now c.args.n c.loop-i.i c.in_ok-operation.operation (sym c.in_ok-operation.ensures) in
     record { below = q.below; fits = q.fits }
 
 pub loop-i-preserved : goal.loop-i-preserved
 loop-i-preserved c =
     entries_more c.args.sheet.now c.args.n c.loop-i.i c.loop-i.table.entries c.loop-i.invariant
-    ∙ (ap (putting c.loop-i.table.entries (key_at c.args.sheet.now c.loop-i.i)) (sym c.in-ok-operation.ensures)
+    ∙ (ap (putting c.loop-i.table.entries (key_at c.args.sheet.now c.loop-i.i)) (sym c.in_ok-operation.ensures)
     ∙ ap (λ (t : Entries). Ok t) (sym c.put.ensures))
 
 pub returns : goal.returns

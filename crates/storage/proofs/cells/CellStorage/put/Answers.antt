@@ -4,8 +4,8 @@ use Rattle.storage.specs.Cells.{cells}
 use Rattle.storage.proofs.CellFacts.{cells_put, length-cells}
 use Rattle.storage.proofs.cells.CellStorage.put.Goals as goal
 
-pub index-mut-requires : goal.index-mut-requires
-index-mut-requires c =
+pub index_mut-requires : goal.index_mut-requires
+index_mut-requires c =
     let l = length-cells c.args.self.now.cells.items in
     let b = ltb-true c.args.place (length (cells c.args.self.now.cells.items)) c.requires in
     omega arith
