@@ -7,6 +7,7 @@ mod demonstration;
 use console::failure::Failure;
 use console::session::lines::play;
 use demonstration::SCRIPT;
+use std::process::ExitCode;
 use std::{env, fs, io};
 
 // The script that the arguments name.
@@ -32,7 +33,15 @@ fn script(rt: &HostRuntime) -> Result<String, Failure> {
     }
 }
 
-fn main(rt: HostRuntime) -> Result<(), Failure> {
-    let text = script(&rt)?;
-    play(&rt, text.as_str())
+fn perform(rt: &HostRuntime) -> Result<(), Failure> {
+    let text = script(rt)?;
+    play(rt, text.as_str())
+}
+
+// A session that ends early ends the program with status 1.
+fn main(rt: HostRuntime) -> ExitCode {
+    match perform(&rt) {
+        Ok(()) => ExitCode::SUCCESS,
+        Err(_failure) => ExitCode::FAILURE,
+    }
 }

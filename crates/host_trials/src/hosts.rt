@@ -90,7 +90,10 @@ fn wrong_side(rt: HostRuntime) -> Result<(), Fail> {
     assert_eq!(rt; list.latest(), None);
     let token = accepted(&mut registers, INPUT)?;
     assert_eq!(rt; list.take(token), 0, "take on an idle host");
-    refuses(&rt, &mut registers, 0).note("its token went to another host")?;
+    assert!(rt;
+        matches!(exchange(&mut registers, 0, 1), Exchanged::NotAccepted),
+        "its token went to another host"
+    );
     let token = accepted(&mut list, INPUT)?;
     registers.give(token, 1);
     assert_eq!(rt; registers.latest(), None);

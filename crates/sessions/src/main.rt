@@ -5,6 +5,7 @@
 use console::failure::Failure;
 use console::session::lines::play;
 use std::fs;
+use std::process::ExitCode;
 
 const SCRIPTS: [&str; 10] = [
     "teaching.script",
@@ -30,9 +31,16 @@ fn session(rt: &HostRuntime, name: &str) -> Result<(), Failure> {
     Ok(())
 }
 
-fn main(rt: HostRuntime) -> Result<(), Failure> {
+fn sessions(rt: &HostRuntime) -> Result<(), Failure> {
     for name in SCRIPTS {
-        session(&rt, name)?;
+        session(rt, name)?;
     }
     Ok(())
+}
+
+fn main(rt: HostRuntime) -> ExitCode {
+    match sessions(&rt) {
+        Ok(()) => ExitCode::SUCCESS,
+        Err(_failure) => ExitCode::FAILURE,
+    }
 }

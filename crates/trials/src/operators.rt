@@ -7,18 +7,30 @@ use storage::Storage;
 use storage::cells::CellStorage;
 use storage::packed::PackedStorage;
 
+// The call is refused by storage, with a number and a place.
 fn refused<T: Drop>(
     rt: &impl Abort,
     answer: Result<T, Refusal>,
     number: u16,
     place: u32,
 ) -> Result<(), Fail> {
+    refused_as(rt, answer, number, place, "as for every call")
+}
+
+// The same, with a note on why.
+fn refused_as<T: Drop>(
+    rt: &impl Abort,
+    answer: Result<T, Refusal>,
+    number: u16,
+    place: u32,
+    note: &str,
+) -> Result<(), Fail> {
     match answer {
         Ok(_) => Err(Fail::new("the call was served")),
         Err(refusal) => {
-            assert_eq!(rt; refusal.number(), number);
-            assert_eq!(rt; refusal.place(), place);
-            assert_eq!(rt; refusal.layer(), Layer::Storage);
+            assert_eq!(rt; refusal.number(), number, "{note}");
+            assert_eq!(rt; refusal.place(), place, "{note}");
+            assert_eq!(rt; refusal.layer(), Layer::Storage, "{note}");
             Ok(())
         }
     }
@@ -29,7 +41,7 @@ fn sizes(rt: HostRuntime) -> Result<(), Fail> {
     let p = Stopped::new();
     let mut s = CellStorage::zeroed(rt.alloc(), 255)?;
     refused(&rt, p.deposit(&mut s, 0, 1), 8, 0)?;
-    refused(&rt, p.protect(&mut s, 300, true), 8, 0).note("the size before the address")?;
+    refused_as(&rt, p.protect(&mut s, 300, true), 8, 0, "the size before the address")?;
     refused(&rt, p.examine(&s, 0), 8, 0)?;
     assert_eq!(rt; s.read(0), Some((0, true)));
     let mut s = PackedStorage::zeroed(rt.alloc(), 256)?;
@@ -53,7 +65,7 @@ fn damaged(rt: HostRuntime) -> Result<(), Fail> {
     let mut s = CellStorage::new(cells);
     refused(&rt, p.examine(&s, 200), 5, 200)?;
     assert!(rt; p.protect(&mut s, 200, true).is_ok());
-    refused(&rt, p.examine(&s, 200), 5, 200).note("protect keeps the mark")?;
+    refused_as(&rt, p.examine(&s, 200), 5, 200, "protect keeps the mark")?;
     assert!(rt; p.deposit(&mut s, 200, 3).is_ok());
     assert!(rt; matches!(p.examine(&s, 200), Ok(3)));
     let cells = s.into_cells();

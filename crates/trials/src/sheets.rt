@@ -9,12 +9,23 @@ use std::test::Fail;
 
 // The sheet is refused with a number and a place.
 fn refused(rt: &impl Abort, sheet: &[u16], number: u16, place: u32) -> Result<(), Fail> {
+    refused_as(rt, sheet, number, place, "as for every sheet")
+}
+
+// The same, with a note on why.
+fn refused_as(
+    rt: &impl Abort,
+    sheet: &[u16],
+    number: u16,
+    place: u32,
+    note: &str,
+) -> Result<(), Fail> {
     match Stopped::new().load(sheet) {
         Ok(()) => Err(Fail::new("the sheet was taken")),
         Err(refusal) => {
-            assert_eq!(rt; refusal.number(), number);
-            assert_eq!(rt; refusal.place(), place);
-            assert_eq!(rt; refusal.layer(), Layer::Sheet);
+            assert_eq!(rt; refusal.number(), number, "{note}");
+            assert_eq!(rt; refusal.place(), place, "{note}");
+            assert_eq!(rt; refusal.layer(), Layer::Sheet, "{note}");
             Ok(())
         }
     }
@@ -37,8 +48,8 @@ fn counted(heap: Global, count: u16, entries: u16) -> Result<Vec<u16>, AllocErro
 fn shapes(rt: HostRuntime) -> Result<(), Fail> {
     refused(&rt, &[], 1, 0)?;
     refused(&rt, &[0], 1, 0)?;
-    refused(&rt, &[1, 0x1b0], 1, 0).note("one short")?;
-    refused(&rt, &[1, 0x1b0, 27, 0], 1, 0).note("one too long")?;
+    refused_as(&rt, &[1, 0x1b0], 1, 0, "one short")?;
+    refused_as(&rt, &[1, 0x1b0, 27, 0], 1, 0, "one too long")?;
     refused(&rt, &counted(rt.alloc(), 1281, 1281)?, 1, 0)?;
     refused(&rt, &counted(rt.alloc(), 1279, 1280)?, 1, 0)?;
     refused(&rt, &counted(rt.alloc(), 0xffff, 1280)?, 1, 0)?;
@@ -52,17 +63,17 @@ fn shapes(rt: HostRuntime) -> Result<(), Fail> {
 
 #[test]
 fn entries(rt: HostRuntime) -> Result<(), Fail> {
-    refused(&rt, &[2, 0x1b0, 0x1b0, 27, 27], 2, 1).note("the same key")?;
-    refused(&rt, &[2, 0x1b0, 0x1af, 27, 27], 2, 1).note("a falling key")?;
+    refused_as(&rt, &[2, 0x1b0, 0x1b0, 27, 27], 2, 1, "the same key")?;
+    refused_as(&rt, &[2, 0x1b0, 0x1af, 27, 27], 2, 1, "a falling key")?;
     refused(&rt, &[1, 1280, 1], 2, 0)?;
     refused(&rt, &[3, 0, 1, 0xffff, 1, 1, 1], 2, 2)?;
     refused(&rt, &[1, 0x1b0, 0], 3, 0)?;
     refused(&rt, &[1, 0x1b0, 9], 3, 0)?;
     refused(&rt, &[1, 0x1b0, 36], 3, 0)?;
-    refused(&rt, &[2, 0x0b0, 0x1b0, 27, 27], 3, 0).note("AHI and LHI stand in RR only")?;
+    refused_as(&rt, &[2, 0x0b0, 0x1b0, 27, 27], 3, 0, "AHI and LHI stand in RR only")?;
     refused(&rt, &[2, 0x1b0, 0x3b0, 27, 27], 3, 1)?;
-    refused(&rt, &[2, 0x1b0, 0x100, 36, 27], 3, 0).note("entry 0 before entry 1")?;
-    refused(&rt, &[1, 1280, 36], 2, 0).note("the key before the operation")
+    refused_as(&rt, &[2, 0x1b0, 0x100, 36, 27], 3, 0, "entry 0 before entry 1")?;
+    refused_as(&rt, &[1, 1280, 36], 2, 0, "the key before the operation")
 }
 
 #[test]

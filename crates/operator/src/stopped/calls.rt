@@ -39,7 +39,7 @@ impl Stopped {
     ) -> Result<(), Refusal>
         ensures answer { told result ≡ reached (S.meaning storage.old) address }
         ensures after { S.meaning storage.new ≡ after_deposit (S.meaning storage.old) address value }
-        ensures same { self.now.state ≡ self.now.state }
+        ensures same { self.exit.now.state ≡ self.entry.now.state }
     {
         reach(storage, address)?;
         let _ = storage.write(address, value);
@@ -55,7 +55,7 @@ impl Stopped {
     ) -> Result<(), Refusal>
         ensures answer { told result ≡ reached (S.meaning storage.old) address }
         ensures after { S.meaning storage.new ≡ after_protect (S.meaning storage.old) address bit }
-        ensures same { self.now.state ≡ self.now.state }
+        ensures same { self.exit.now.state ≡ self.entry.now.state }
     {
         reach(storage, address)?;
         let _ = storage.guard(address, bit);
@@ -66,7 +66,7 @@ impl Stopped {
     pub fn examine<S: Storage>(&self, storage: &S, address: u32) -> Result<u16, Refusal>
         ensures answer { told result ≡ examine_answer (S.meaning storage.now) address }
         ensures after { S.meaning storage.exit.now ≡ S.meaning storage.entry.now }
-        ensures same { self.now.state ≡ self.now.state }
+        ensures same { self.exit.now.state ≡ self.entry.now.state }
     {
         reach(storage, address)?;
         let value = sound_at(storage, address)?;

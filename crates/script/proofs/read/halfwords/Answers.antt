@@ -10,7 +10,7 @@ pub returns-in_err-ok_or : goal.returns-in_err-ok_or
 returns-in_err-ok_or c =
     let ws = texts c.args.words.now in
     let p = err_from_is_err_and c.from_residual.result c.from_residual.ensures.1 in
-    let none : c.hex_u16.result ≡ None = c.in_err-ok_or.ensures.ok-part in
+    let none : c.hex_u16.result ≡ None = c.in_err-ok_or.ensures.ok_part in
     let text : c.in_err-ok_or.field-0.0 ≡ Text = no_number c.hex_u16.result c.in_err-ok_or.field-0.0 c.in_err-ok_or.ensures.value none in
     let found : None ≡ number_in 16 (2 ^ 16) (word_at ws c.loop-i.i) = search rules in
     let h : c.loop-i.i < length ws = omega arith in
