@@ -104,8 +104,8 @@ fn wrong_side(rt: HostRuntime) -> Result<(), Fail> {
     idle.give(token, 5);
     assert_eq!(rt; idle.latest(), None, "give on an idle host");
     assert_eq!(rt; idle.device().words()[0], 1);
-    assert!(rt; list.device().waiting() == [3, 4]);
-    assert!(rt; list.device().written() == []);
+    assert!(rt; list.device().waiting() == [3, 4].as_slice());
+    assert!(rt; list.device().written() == [].as_slice());
     Ok(())
 }
 
@@ -116,13 +116,13 @@ fn lists(rt: HostRuntime) -> Result<(), Fail> {
     takes(&rt, &mut host, INPUT, 3)?;
     gives(&rt, &mut host, 1, 8);
     takes(&rt, &mut host, 0xffff_ffff, 4)?;
-    assert!(rt; host.device().waiting() == [5]);
+    assert!(rt; host.device().waiting() == [5].as_slice());
     takes(&rt, &mut host, INPUT, 5)?;
     refuses(&rt, &mut host, INPUT)?;
     gives(&rt, &mut host, 0x7fff_ffff, 9);
     refuses(&rt, &mut host, 0)?;
     refuses(&rt, &mut host, INPUT)?;
-    assert!(rt; host.device().written() == [8, 9]);
+    assert!(rt; host.device().written() == [8, 9].as_slice());
     assert_eq!(rt; host.latest(), Some((0x7fff_ffff, 9)));
     let mut none = ListHost::with_words(rt.alloc(), Vec::new(rt.alloc()), 0)?;
     refuses(&rt, &mut none, INPUT)?;

@@ -41,7 +41,13 @@ fn sizes(rt: HostRuntime) -> Result<(), Fail> {
     let p = Stopped::new();
     let mut s = CellStorage::zeroed(rt.alloc(), 255)?;
     refused(&rt, p.deposit(&mut s, 0, 1), 8, 0)?;
-    refused_as(&rt, p.protect(&mut s, 300, true), 8, 0, "the size before the address")?;
+    refused_as(
+        &rt,
+        p.protect(&mut s, 300, true),
+        8,
+        0,
+        "the size before the address",
+    )?;
     refused(&rt, p.examine(&s, 0), 8, 0)?;
     assert_eq!(rt; s.read(0), Some((0, true)));
     let mut s = PackedStorage::zeroed(rt.alloc(), 256)?;

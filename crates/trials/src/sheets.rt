@@ -70,9 +70,21 @@ fn entries(rt: HostRuntime) -> Result<(), Fail> {
     refused(&rt, &[1, 0x1b0, 0], 3, 0)?;
     refused(&rt, &[1, 0x1b0, 9], 3, 0)?;
     refused(&rt, &[1, 0x1b0, 36], 3, 0)?;
-    refused_as(&rt, &[2, 0x0b0, 0x1b0, 27, 27], 3, 0, "AHI and LHI stand in RR only")?;
+    refused_as(
+        &rt,
+        &[2, 0x0b0, 0x1b0, 27, 27],
+        3,
+        0,
+        "AHI and LHI stand in RR only",
+    )?;
     refused(&rt, &[2, 0x1b0, 0x3b0, 27, 27], 3, 1)?;
-    refused_as(&rt, &[2, 0x1b0, 0x100, 36, 27], 3, 0, "entry 0 before entry 1")?;
+    refused_as(
+        &rt,
+        &[2, 0x1b0, 0x100, 36, 27],
+        3,
+        0,
+        "entry 0 before entry 1",
+    )?;
     refused_as(&rt, &[1, 1280, 36], 2, 0, "the key before the operation")
 }
 
