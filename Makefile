@@ -7,8 +7,9 @@ help:
 
 # The program is proved before it is built.
 run:
-	@mkdir -p target
-	@rt check ap101s >target/run.log 2>&1 || { cat target/run.log; exit 1; }
+	@mkdir -p target/bin
+	@(cd crates/ap101s && rt run) >target/run.log 2>&1 </dev/null || { cat target/run.log; exit 1; }
+	@cp crates/ap101s/out/ap101s target/bin/ap101s
 	@target/bin/ap101s $(SCRIPT)
 
 test:
