@@ -4,7 +4,7 @@ use Rattle.host.specs.Devices.{Input, Output}
 use Rattle.host.specs.Laws.{InOrder}
 use Rattle.host.specs.Lists.{Lists, room_is_left, lists, lists_after, lists_take}
 use Rattle.host.specs.Meaning.{HostCall, Command, Take, Give, Clear, Meaning, accepts, is_idle, command_is_input}
-use Rattle.host.specs.Runs.{given_by, givings, output_of, ran, taken_by, takings}
+use Rattle.host.specs.Runs.{given_by, givings, ran, taken_by, takings}
 use Rattle.host.proofs.Machines.{At, ended, ends, means, moved, moves}
 use Rattle.std.proofs.lemmas.List.{length-append, length_push, take_at}
 use Rattle.std.proofs.lemmas.Bool.{and_parts, cases_lt, false≢true, le-ltb, lt-ltb}

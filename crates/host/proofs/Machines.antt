@@ -1,7 +1,7 @@
 -- A host over a device that is given as a machine: what the calls make of the open command and the machine's state.
 use Rattle.std.proofs.Common.{◌≡◌, ℕ, Bool, true, false, cond, not, ◌&&◌, List, [], ◌∷◌, Some, None, Option, refl, ap, ◌∙◌}
 use Rattle.host.specs.Devices.{Attached, Behaviour, Input, Machine, Output, after, behaves, follow, host_of, input_for, latest_for, next, output_for}
-use Rattle.host.specs.Meaning.{HostCall, Command, Take, Give, Clear, Meaning, cleared, is_idle, command_is_input, later, on_input, on_output, with_command}
+use Rattle.host.specs.Meaning.{HostCall, Command, Take, Give, Clear, Meaning, cleared, is_idle, command_is_input}
 use Rattle.host.specs.Runs.{called, ran}
 
 -- A host over a device is after a call what the call makes of its meaning.

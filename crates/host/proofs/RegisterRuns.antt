@@ -1,9 +1,9 @@
 -- A register host over lists of calls.
-use Rattle.std.proofs.Common.{◌≡◌, ℕ, ◌%◌, ◌<◌, Bool, true, false, cond, ◌&&◌, eqb, List, [], ◌∷◌, ◌++◌, length, get_or, set, Some, None, Option, sym, refl, ap, ◌∙◌, subst, ⊎_elim, arith}
+use Rattle.std.proofs.Common.{◌≡◌, ℕ, ◌<◌, Bool, true, false, cond, ◌&&◌, eqb, List, [], ◌∷◌, ◌++◌, length, get_or, set, Some, None, Option, sym, refl, ap, ◌∙◌, subst, ⊎_elim, arith}
 use Rattle.host.specs.Laws.{Keeps, latest_to}
 use Rattle.host.specs.Meaning.{HostCall, Command, Take, Give, Clear, Meaning, accepts, is_idle, command_is_input, word_taken}
 use Rattle.host.specs.Registers.{register_of, registers}
-use Rattle.host.specs.Runs.{called, given_by, givings, output_of, ran}
+use Rattle.host.specs.Runs.{given_by, givings, output_of}
 use Rattle.host.proofs.Machines.{At, drawn, ended, ends, filled, means, moved, moves}
 use Rattle.std.proofs.lemmas.List.{get_or-set_other, get_or-set_same, length-set}
 use Rattle.std.proofs.lemmas.Bool.{cases_eq, eq-eqb, ne_eqb}

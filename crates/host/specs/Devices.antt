@@ -1,5 +1,5 @@
 -- What a device does, and what a host over a device means.
-use Rattle.std.specs.Prelude.{ℕ, Bool, cond, ◌&&◌, List, [], ◌∷◌, Some, None, Option}
+use Rattle.std.specs.Prelude.{ℕ, cond, ◌&&◌, List, [], ◌∷◌, Some, None, Option}
 use Rattle.host.specs.Meaning.{HostCall, Command, Take, Give, Clear, Offer, Meaning, is_idle, command_is_input}
 use Rattle.host.specs.declared.device.DeviceHost.{DeviceHost}
 

@@ -1,6 +1,6 @@
 -- What a host means, and what each call of it answers and leaves.
 use Rattle.std.specs.Prelude.{ℕ, Bool, true, false, cond, not, ◌&&◌, List, [], ◌∷◌, Some, None, Option}
-use Rattle.word.specs.Bits.{bit_at}
+use Rattle.word.specs.Bits.{bit_of}
 
 -- The calls of a host.
 pub data HostCall : Type 0 where
@@ -22,7 +22,7 @@ pub record Meaning : Type 0 where
 
 -- A command is a fullword; its bit 0, 31 places from the right, is one for input.
 abbrev pub command_is_input : ℕ → Bool
-command_is_input c = bit_at c 31
+command_is_input c = bit_of c 31
 
 -- No command is open.
 abbrev pub is_idle : Option ℕ → Bool

@@ -1,5 +1,5 @@
 -- Lists of calls of a host: what it means after them, and which words they moved.
-use Rattle.std.specs.Prelude.{ℕ, Bool, cond, List, [], ◌∷◌, ◌++◌, Some, None, Option}
+use Rattle.std.specs.Prelude.{ℕ, cond, List, [], ◌∷◌, ◌++◌, Some, None, Option}
 use Rattle.host.specs.Meaning.{HostCall, Command, Take, Give, Clear, Meaning, cleared, commanded, given, command_is_input, on_input, taken, word_taken}
 
 -- One call.

@@ -5,7 +5,6 @@ use Rattle.processor.specs.State.{with_table}
 use Rattle.sheet.specs.declared.refusal.Layer.TheVariants as layer
 use Rattle.sheet.specs.Refusals.{Refused, refused}
 use Rattle.sheet.specs.Sheets.{table_of}
-use Rattle.sheet.specs.Tables.{Entries}
 use Rattle.storage.specs.Meaning.{Place, at, guarded, within, written}
 
 abbrev pub Done : Type 0

@@ -1,5 +1,5 @@
 -- What a processor holds: a fresh one, and one whose table is replaced.
-use Rattle.std.specs.Prelude.{false, ℕ, replicate}
+use Rattle.std.specs.Prelude.{false, replicate}
 use Rattle.processor.specs.declared.state.Pending.{Pending}
 use Rattle.processor.specs.declared.state.RegisterSet.{RegisterSet}
 use Rattle.processor.specs.declared.state.State.{State}

@@ -1,11 +1,11 @@
 -- A sheet that is accepted fills its table: each entry stands at its key, and nothing else stands in it.
-use Rattle.std.proofs.Common.{◌≡◌, ℕ, zero, suc, ◌+◌, ◌-◌, ◌/◌, ◌<◌, ◌≤◌, Bool, true, false, cond, ◌&&◌, eqb, ltb, List, length, get_or, set, replicate, Some, None, Ok, Err, Option, Result, sym, refl, ap, ◌∙◌, subst, ⊎_elim, arith}
+use Rattle.std.proofs.Common.{◌≡◌, ℕ, zero, suc, ◌-◌, ◌<◌, ◌≤◌, false, eqb, List, length, get_or, set, Some, None, Ok, Err, Option, Result, sym, refl, ◌∙◌, subst, ⊎_elim, arith}
 use Rattle.std.proofs.lemmas.List.{length-set, get_or-set_same, get_or-set_other, length-replicate}
 use Rattle.std.proofs.lemmas.Bool.{cases_eq, cond_both, ltb-true, ne_eqb}
 use Rattle.sheet.specs.declared.operation.Operation.{Operation}
-use Rattle.sheet.specs.Operations.{admits, operation_of}
+use Rattle.sheet.specs.Operations.{operation_of}
 use Rattle.sheet.specs.Refusals.{Refused}
-use Rattle.sheet.specs.Sheets.{Filled, Fills, adding, count_of, entries_to, entry_of, key_at, number_at, putting, rising, shaped, table_of}
+use Rattle.sheet.specs.Sheets.{Fills, adding, count_of, entries_to, entry_of, key_at, number_at, putting, shaped, table_of}
 use Rattle.sheet.specs.Tables.{Entries, empty_entries}
 use Rattle.sheet.proofs.Lists.{get_or_same}
 use Rattle.sheet.proofs.Loading.{Taken, err_ok, taken}

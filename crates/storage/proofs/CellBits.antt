@@ -1,10 +1,10 @@
 -- What a cell holds after a value or a protect bit is put.
-use Rattle.std.proofs.Common.{◌≡◌, ℕ, zero, suc, ◌+◌, ◌-◌, ◌*◌, ◌/◌, ◌%◌, ◌^◌, ◌<◌, ◌≤◌, Bool, true, false, eqb, sym, refl, ap, ◌∙◌, ⊎_elim, arith}
+use Rattle.std.proofs.Common.{◌≡◌, ℕ, zero, suc, ◌+◌, ◌-◌, ◌*◌, ◌/◌, ◌%◌, ◌^◌, ◌<◌, Bool, refl, ⊎_elim, arith}
 use lib.Bits.{bit_and, bit_or}
 use lib.Count.{ones, ones_in, ones_cat}
 use Rattle.std.proofs.lemmas.Nat.{and_mask, or_shifted}
 use Rattle.word.specs.Bits.{num}
-use Rattle.storage.specs.Meaning.{Place, place_with_value, place_with_protect}
+use Rattle.storage.specs.Meaning.{place_with_value, place_with_protect}
 use Rattle.storage.specs.Cells.{cell_of, parity_of, cell_written, cell_guarded}
 use Rattle.std.proofs.lemmas.Bool.{cases_eq}
 use Rattle.word.proofs.Bitwork.{num_lt, num_bit}

@@ -1,5 +1,5 @@
 -- What cell storage means, read and changed.
-use Rattle.std.proofs.Common.{◌≡◌, ℕ, ◌+◌, ◌-◌, ◌*◌, ◌/◌, ◌%◌, ◌^◌, ◌<◌, ◌≤◌, min, Bool, true, cond, List, map, length, get_or, take, set, Some, None, Option, sym, refl, ap, ◌∙◌, arith}
+use Rattle.std.proofs.Common.{◌≡◌, ℕ, ◌<◌, ◌≤◌, min, true, List, map, length, get_or, take, set, Some, None, sym, ap, ◌∙◌, arith}
 use lib.Seq.{take-set-lt}
 use Rattle.std.proofs.lemmas.List.{get_or_read, length-map, length-take, get_or-map, get_or-take, map-set}
 use Rattle.std.proofs.lemmas.Bool.{cond_below, ltb-true}

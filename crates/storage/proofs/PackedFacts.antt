@@ -1,11 +1,11 @@
 -- What packed storage means, read and changed.
-use Rattle.std.proofs.Common.{◌≡◌, ℕ, ◌+◌, ◌-◌, ◌*◌, ◌/◌, ◌%◌, ◌^◌, ◌<◌, ◌≤◌, Bool, true, false, List, map, length, get_or, set, Some, None, Option, sym, refl, ap, ◌∙◌, ⊎_elim, arith}
+use Rattle.std.proofs.Common.{◌≡◌, ℕ, ◌/◌, ◌<◌, ◌≤◌, Bool, true, List, map, length, get_or, set, Some, None, sym, ap, ◌∙◌, ⊎_elim, arith}
 use Rattle.std.specs.List.{range_with_len}
 use Rattle.std.proofs.lemmas.List.FromFn.{length-map-range_with_len}
-use Rattle.std.proofs.lemmas.List.{get_or_read, length-set, get_or-set_same, get_or-set_other, get_or_past}
-use Rattle.std.proofs.lemmas.Bool.{cases_eq, cases_lt, cond_below}
-use Rattle.storage.specs.Meaning.{Place, at, within, read_of, protected_of, written, guarded, blank, place_with_value, place_with_protect}
-use Rattle.word.specs.Bits.{bit_at, put_bit, from_right}
+use Rattle.std.proofs.lemmas.List.{get_or_read, length-set, get_or-set_same, get_or-set_other}
+use Rattle.std.proofs.lemmas.Bool.{cases_eq, cond_below}
+use Rattle.storage.specs.Meaning.{Place, at, read_of, protected_of, written, guarded, blank, place_with_value, place_with_protect}
+use Rattle.word.specs.Bits.{bit_of, number_with_bit, from_right}
 use Rattle.storage.specs.Packed.{packed, packed_size, packed_place, values_written, bits_guarded}
 use Rattle.word.proofs.Bitwork.{put_same, put_other}
 use Rattle.storage.proofs.Counting.{counted_at, counted_set}
@@ -35,17 +35,17 @@ module _ (vs ps : List ℕ) where
       let e = get_or-set_same vs i v 0 hl in
       changed (set vs i v) ps i (place_with_value (at (packed vs ps) i) v) h (simp length-set) (λ k ne. simp (get_or-set_other vs i k v 0 ne)) (simp (e, a))
 
-  pub packed-guarded : (i : ℕ) (b : Bool) → i < packed_size vs ps → packed vs (set ps (i / 16) (put_bit (get_or ps (i / 16) 0) (from_right i) b)) ≡ set (packed vs ps) i (place_with_protect (at (packed vs ps) i) b)
+  pub packed-guarded : (i : ℕ) (b : Bool) → i < packed_size vs ps → packed vs (set ps (i / 16) (number_with_bit (get_or ps (i / 16) 0) (from_right i) b)) ≡ set (packed vs ps) i (place_with_protect (at (packed vs ps) i) b)
   packed-guarded i b h =
-      let w = put_bit (get_or ps (i / 16) 0) (from_right i) b in
+      let w = number_with_bit (get_or ps (i / 16) 0) (from_right i) b in
       let a = at_packed i h in
       let hl : i / 16 < length ps = omega arith in
       let e = get_or-set_same ps (i / 16) w 0 hl in
-      let bit : bit_at w (from_right i) ≡ b = put_same (get_or ps (i / 16) 0) (from_right i) b in
-      let other : (k : ℕ) → (k ≡ i → ⊥) → bit_at (get_or (set ps (i / 16) w) (k / 16) 0) (from_right k) ≡ bit_at (get_or ps (k / 16) 0) (from_right k) =
+      let bit : bit_of w (from_right i) ≡ b = put_same (get_or ps (i / 16) 0) (from_right i) b in
+      let other : (k : ℕ) → (k ≡ i → ⊥) → bit_of (get_or (set ps (i / 16) w) (k / 16) 0) (from_right k) ≡ bit_of (get_or ps (k / 16) 0) (from_right k) =
       λ k ne. ⊎_elim
       (λ (q : k / 16 ≡ i / 16). rw (q, e) (put_other (get_or ps (i / 16) 0) (from_right i) (from_right k) b (λ s. omega arith)))
-      (λ (nq : k / 16 ≡ i / 16 → ⊥). ap (λ (x : ℕ). bit_at x (from_right k)) (get_or-set_other ps (i / 16) (k / 16) w 0 nq))
+      (λ (nq : k / 16 ≡ i / 16 → ⊥). ap (λ (x : ℕ). bit_of x (from_right k)) (get_or-set_other ps (i / 16) (k / 16) w 0 nq))
       (cases_eq (k / 16) (i / 16))
       in
       changed vs (set ps (i / 16) w) i (place_with_protect (at (packed vs ps) i) b) h (simp length-set)
@@ -69,26 +69,26 @@ module _ (vs ps : List ℕ) where
         let here : (v, true) ≡ ((at (packed vs ps) i).value, (at (packed vs ps) i).sound) = simp (at_packed i (inside i h), e) in
         ap Some here ∙ cond_below i (length (packed vs ps)) _ None h
 
-    pub packed-protected : (w : ℕ) → w ≡ get_or ps (i / 16) w → Some (bit_at w (from_right i)) ≡ protected_of (packed vs ps) i
+    pub packed-protected : (w : ℕ) → w ≡ get_or ps (i / 16) w → Some (bit_of w (from_right i)) ≡ protected_of (packed vs ps) i
     packed-protected w found =
         let e : get_or ps (i / 16) 0 ≡ w = sym (get_or_read ps (i / 16) w packed_bit_inside found 0) in
-        let here : bit_at w (from_right i) ≡ (at (packed vs ps) i).protected = simp (at_packed i (inside i h), e) in
+        let here : bit_of w (from_right i) ≡ (at (packed vs ps) i).protected = simp (at_packed i (inside i h), e) in
         ap Some here ∙ cond_below i (length (packed vs ps)) _ None h
 
     pub packed-writes : (v : ℕ) → packed (set vs i v) ps ≡ written (packed vs ps) i v
     packed-writes v = packed-written i v (inside i h) ∙ cond_below i (length (packed vs ps)) _ (packed vs ps) h
 
-    pub packed_guards : (w x : ℕ) (b : Bool) → w ≡ get_or ps (i / 16) w → x ≡ put_bit w (from_right i) b → packed vs (set ps (i / 16) x) ≡ guarded (packed vs ps) i b
+    pub packed_guards : (w x : ℕ) (b : Bool) → w ≡ get_or ps (i / 16) w → x ≡ number_with_bit w (from_right i) b → packed vs (set ps (i / 16) x) ≡ guarded (packed vs ps) i b
     packed_guards w x b found e =
         let f : w ≡ get_or ps (i / 16) 0 = get_or_read ps (i / 16) w packed_bit_inside found 0 in
-        ap (λ (y : ℕ). packed vs (set ps (i / 16) y)) (e ∙ ap (λ (y : ℕ). put_bit y (from_right i) b) f)
+        ap (λ (y : ℕ). packed vs (set ps (i / 16) y)) (e ∙ ap (λ (y : ℕ). number_with_bit y (from_right i) b) f)
         ∙ (packed-guarded i b (inside i h) ∙ cond_below i (length (packed vs ps)) _ (packed vs ps) h)
 
     pub packed_values : (v : ℕ) → set vs i v ≡ values_written vs ps i v
     packed_values v = cond_below i (length (packed vs ps)) _ vs h
 
-    pub packed_bits : (w x : ℕ) (b : Bool) → w ≡ get_or ps (i / 16) w → x ≡ put_bit w (from_right i) b → set ps (i / 16) x ≡ bits_guarded vs ps i b
+    pub packed_bits : (w x : ℕ) (b : Bool) → w ≡ get_or ps (i / 16) w → x ≡ number_with_bit w (from_right i) b → set ps (i / 16) x ≡ bits_guarded vs ps i b
     packed_bits w x b found e =
         let f : w ≡ get_or ps (i / 16) 0 = get_or_read ps (i / 16) w packed_bit_inside found 0 in
-        ap (λ (y : ℕ). set ps (i / 16) y) (e ∙ ap (λ (y : ℕ). put_bit y (from_right i) b) f)
+        ap (λ (y : ℕ). set ps (i / 16) y) (e ∙ ap (λ (y : ℕ). number_with_bit y (from_right i) b) f)
         ∙ cond_below i (length (packed vs ps)) _ ps h

@@ -1,14 +1,14 @@
 -- Storages whose places are all zero, unprotected and sound.
-use Rattle.std.proofs.Common.{◌≡◌, ℕ, ◌+◌, ◌*◌, ◌/◌, ◌%◌, ◌^◌, ◌<◌, ◌≤◌, Bool, true, false, eqb, List, map, length, get_or, take, replicate, sym, refl, ap, ◌∙◌, arith}
+use Rattle.std.proofs.Common.{◌≡◌, ℕ, ◌+◌, ◌*◌, ◌/◌, ◌%◌, ◌^◌, ◌<◌, ◌≤◌, true, false, eqb, List, map, get_or, replicate, sym, refl, ap, ◌∙◌, arith}
 use native.Mathlib.Nat.{zero-div}
 use lib.Count.{ones, ones_in}
 use lib.LanesLaws.{map-replicate}
 use Rattle.std.proofs.lemmas.List.FromFn.{fill_by_all}
 use Rattle.std.proofs.lemmas.List.{get_or-replicate, length-replicate, take_all}
 use Rattle.std.specs.List.{range_with_len}
-use Rattle.word.specs.Bits.{bit_at, from_right}
+use Rattle.word.specs.Bits.{bit_of, from_right}
 use Rattle.storage.specs.Cells.{cell_of, cells}
-use Rattle.storage.specs.Meaning.{Place, blank}
+use Rattle.storage.specs.Meaning.{blank}
 use Rattle.storage.specs.Packed.{packed, packed_place, packed_size}
 
 -- The cell of a place that is zero has its parity bit one.
@@ -30,13 +30,13 @@ module _ (n m : ℕ) (h : n ≤ 524288) (b : n ≤ 16 * m) where
   size : packed_size (replicate n 0) (replicate m 0) ≡ n
   size = let l = length-replicate {A = ℕ} n 0 in let k = length-replicate {A = ℕ} m 0 in omega arith
 
-  no_bit : (s : ℕ) → bit_at 0 s ≡ false
+  no_bit : (s : ℕ) → bit_of 0 s ≡ false
   no_bit s = ap (λ (x : ℕ). eqb (x % 2) 1) (zero-div (2 ^ s))
 
   blank-place : (k : ℕ) → k < n → blank ≡ packed_place (replicate n 0) (replicate m 0) k
   blank-place k hk =
       let w : get_or (replicate m 0) (k / 16) 0 ≡ 0 = get_or-replicate m (k / 16) 0 0 (omega arith) in
-      let p : bit_at (get_or (replicate m 0) (k / 16) 0) (from_right k) ≡ false = ap (λ (x : ℕ). bit_at x (from_right k)) w ∙ no_bit (from_right k) in
+      let p : bit_of (get_or (replicate m 0) (k / 16) 0) (from_right k) ≡ false = ap (λ (x : ℕ). bit_of x (from_right k)) w ∙ no_bit (from_right k) in
       let v : get_or (replicate n 0) k 0 ≡ 0 = get_or-replicate n k 0 0 hk in
       λ i. record { value = sym v i; protected = sym p i; sound = true }
 

@@ -1,5 +1,5 @@
 -- What a storage means: one place after another, each a halfword, a protect bit and a mark, sound or unsound.
-use Rattle.std.specs.Prelude.{ℕ, Bool, true, false, cond, List, map, length, take, set, Some, None, Option, nat_lt, slice_index_or, slice_set}
+use Rattle.std.specs.Prelude.{ℕ, Bool, true, false, cond, List, map, length, take, Some, None, Option, nat_lt, slice_index_or, slice_set}
 
 pub record Place : Type 0 where
   pub value : ℕ

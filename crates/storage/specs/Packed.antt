@@ -1,7 +1,7 @@
 -- Packed storage: a list of halfwords, and a list of protect bits, sixteen to a halfword from the left.
 use Rattle.std.specs.Prelude.{ℕ, ◌*◌, ◌/◌, min, Bool, true, cond, List, map, length, Some, None, Option, slice_index, slice_set}
 use Rattle.std.specs.List.{range_with_len}
-use Rattle.word.specs.Bits.{bit_at, put_bit, from_right}
+use Rattle.word.specs.Bits.{bit_of, number_with_bit, from_right}
 use Rattle.storage.specs.Meaning.{Place, within}
 
 -- The size: the least of the count of values, the count of protect bits, and 524,288.
@@ -11,7 +11,7 @@ packed_size vs ps = min (min (length vs) (16 * length ps)) 524288
 -- Every place is sound.
 abbrev pub packed_place : List ℕ → List ℕ → ℕ → Place
 packed_place vs ps i =
-    record { value = slice_index vs i; protected = bit_at (slice_index ps (i / 16)) (from_right i); sound = true }
+    record { value = slice_index vs i; protected = bit_of (slice_index ps (i / 16)) (from_right i); sound = true }
 
 -- What the two lists mean.
 unfoldable pub packed : List ℕ → List ℕ → List Place
@@ -24,7 +24,7 @@ found_value None = None
 
 -- The protect bit of place i in the halfword that was found to hold it.
 abbrev pub found_bit : Option ℕ → ℕ → Option Bool
-found_bit (Some w) i = Some (bit_at w (from_right i))
+found_bit (Some w) i = Some (bit_of w (from_right i))
 found_bit None i = None
 
 -- The values after a write, and the protect bits after a guard: all else is kept, also what lies at or above the size.
@@ -33,4 +33,4 @@ values_written vs ps i v = cond (within (packed vs ps) i) (slice_set vs i v) vs
 
 abbrev pub bits_guarded : List ℕ → List ℕ → ℕ → Bool → List ℕ
 bits_guarded vs ps i b =
-    cond (within (packed vs ps) i) (slice_set ps (i / 16) (put_bit (slice_index ps (i / 16)) (from_right i) b)) ps
+    cond (within (packed vs ps) i) (slice_set ps (i / 16) (number_with_bit (slice_index ps (i / 16)) (from_right i) b)) ps

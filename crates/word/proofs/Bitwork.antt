@@ -4,7 +4,7 @@ use lib.Bits.{bit_and, bit_or}
 use mir.Val.{bool_byte}
 use Rattle.std.proofs.lemmas.Nat.{and_mask, or_shifted, pow_pos, pow-add, shl_whole, one_shl, shr_below, shr_le, mod_below, shr_high, shr-shr, field_of, mod-pow-add, div-add-mod'}
 use Rattle.std.proofs.lemmas.Bool.{cases_lt}
-use Rattle.word.specs.Bits.{num, bit_at, put_bit}
+use Rattle.word.specs.Bits.{num, bit_of, number_with_bit}
 
 pub num_lt : (b : Bool) → num b < 2
 num_lt true = omega arith
@@ -49,23 +49,23 @@ module _ (w s : ℕ) (hw : w < 2 ^ 16) (hs : s < 16) where
       rw (e1, e2, e3, e4, and_mask w s, e5)
 
 -- the bit that was put, and the others
-pub put_same : (w s : ℕ) (b : Bool) → bit_at (put_bit w s b) s ≡ b
+pub put_same : (w s : ℕ) (b : Bool) → bit_of (number_with_bit w s b) s ≡ b
 put_same w s b =
     let q = shr_high (w / 2 ^ s / 2 * 2 + num b) s (w % 2 ^ s) (mod_below w (2 ^ s) (pow_pos s)) in
     let hb = num_lt b in
     let r : (w / 2 ^ s / 2 * 2 + num b) % 2 ≡ num b = omega arith in
     rw (q, r) (num_bit b)
 
-put_above : (w s t : ℕ) (b : Bool) → s < t → put_bit w s b / 2 ^ t ≡ w / 2 ^ t
+put_above : (w s t : ℕ) (b : Bool) → s < t → number_with_bit w s b / 2 ^ t ≡ w / 2 ^ t
 put_above w s t b h =
     let u = t - s - 1 in
     let e : t ≡ s + (1 + u) = omega arith in
     let q = shr_high (w / 2 ^ s / 2 * 2 + num b) s (w % 2 ^ s) (mod_below w (2 ^ s) (pow_pos s)) in
     let hb = num_lt b in
     let r : (w / 2 ^ s / 2 * 2 + num b) / 2 ≡ w / 2 ^ s / 2 = omega arith in
-    rw (e, ← shr-shr (put_bit w s b) s (1 + u), q, ← shr-shr (w / 2 ^ s / 2 * 2 + num b) 1 u, r, ← shr-shr w s (1 + u), ← shr-shr (w / 2 ^ s) 1 u) refl
+    rw (e, ← shr-shr (number_with_bit w s b) s (1 + u), q, ← shr-shr (w / 2 ^ s / 2 * 2 + num b) 1 u, r, ← shr-shr w s (1 + u), ← shr-shr (w / 2 ^ s) 1 u) refl
 
-put_below : (w s t : ℕ) (b : Bool) → t < s → put_bit w s b / 2 ^ t % 2 ≡ w / 2 ^ t % 2
+put_below : (w s t : ℕ) (b : Bool) → t < s → number_with_bit w s b / 2 ^ t % 2 ≡ w / 2 ^ t % 2
 put_below w s t b h =
     let u = s - t - 1 in
     let Q = w / 2 ^ s / 2 * 2 + num b in
@@ -74,8 +74,8 @@ put_below w s t b h =
     let p2 : Q * 2 ^ s ≡ Q * 2 ^ (u + 1) * 2 ^ t = ap (λ (x : ℕ). Q * x) p1 ∙ sym (mul_assoc Q (2 ^ (u + 1)) (2 ^ t)) in
     let p3 = add-mul (Q * 2 ^ (u + 1)) (w % 2 ^ s / 2 ^ t) (2 ^ t) in
     let p4 = div-add-mod' (w % 2 ^ s) (2 ^ t) in
-    let mid : put_bit w s b ≡ (Q * 2 ^ (u + 1) + w % 2 ^ s / 2 ^ t) * 2 ^ t + w % 2 ^ s % 2 ^ t = omega arith in
-    let q : put_bit w s b / 2 ^ t ≡ Q * 2 ^ (u + 1) + w % 2 ^ s / 2 ^ t =
+    let mid : number_with_bit w s b ≡ (Q * 2 ^ (u + 1) + w % 2 ^ s / 2 ^ t) * 2 ^ t + w % 2 ^ s % 2 ^ t = omega arith in
+    let q : number_with_bit w s b / 2 ^ t ≡ Q * 2 ^ (u + 1) + w % 2 ^ s / 2 ^ t =
     rw mid (shr_high (Q * 2 ^ (u + 1) + w % 2 ^ s / 2 ^ t) t (w % 2 ^ s % 2 ^ t) (mod_below (w % 2 ^ s) (2 ^ t) (pow_pos t)))
     in
     let f : w % 2 ^ s / 2 ^ t ≡ w / 2 ^ t % 2 ^ (u + 1) = ap (λ (k : ℕ). w % 2 ^ k / 2 ^ t) e ∙ field_of w (u + 1) t in
@@ -83,7 +83,7 @@ put_below w s t b h =
     let k : Q * 2 ^ (u + 1) ≡ Q * 2 ^ u * 2 = ap (λ (x : ℕ). Q * x) (pow-add 2 u 1) ∙ sym (mul_assoc Q (2 ^ u) 2) in
     rw q (omega arith)
 
-pub put_other : (w s t : ℕ) (b : Bool) → (t ≡ s → ⊥) → bit_at (put_bit w s b) t ≡ bit_at w t
+pub put_other : (w s t : ℕ) (b : Bool) → (t ≡ s → ⊥) → bit_of (number_with_bit w s b) t ≡ bit_of w t
 put_other w s t b ne =
     ⊎_elim
     (λ (h : t < s). ap (λ (x : ℕ). eqb x 1) (put_below w s t b h))

@@ -11,9 +11,9 @@ abbrev pub from_right : ℕ → ℕ
 from_right n = 15 - n % 16
 
 -- The bit that stands s places from the right.
-abbrev pub bit_at : ℕ → ℕ → Bool
-bit_at w s = w / 2 ^ s % 2 == 1
+abbrev pub bit_of : ℕ → ℕ → Bool
+bit_of w s = w / 2 ^ s % 2 == 1
 
 -- The number with that bit put: what stands above and below it is kept.
-abbrev pub put_bit : ℕ → ℕ → Bool → ℕ
-put_bit w s b = (w / 2 ^ s / 2 * 2 + num b) * 2 ^ s + w % 2 ^ s
+abbrev pub number_with_bit : ℕ → ℕ → Bool → ℕ
+number_with_bit w s b = (w / 2 ^ s / 2 * 2 + num b) * 2 ^ s + w % 2 ^ s

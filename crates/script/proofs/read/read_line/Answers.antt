@@ -1,4 +1,4 @@
-use Rattle.std.proofs.Common.{◌≡◌, ℕ, List, sym, subst, Bor}
+use Rattle.std.proofs.Common.{ℕ, List, sym, subst, Bor}
 use Rattle.std.proofs.lemmas.Result.{err_from_is_err_and}
 use Rattle.script.specs.Words.{LineWords, texts}
 use Rattle.script.proofs.Taken.{reads}

@@ -1,4 +1,4 @@
-use Rattle.std.proofs.Common.{◌≡◌, ℕ, List, [], ◌∷◌, ◌++◌, vec_items, sym, ap, ◌∙◌, subst, rules}
+use Rattle.std.proofs.Common.{◌≡◌, ℕ, List, [], ◌∷◌, ◌++◌, vec_items, sym, ap, ◌∙◌, subst}
 use Rattle.std.specs.Str.Iter.{split_whitespace_rest}
 use Rattle.script.specs.Words.{Firsts, texts}
 use Rattle.script.proofs.Taken.{firsts_more, texts_more}

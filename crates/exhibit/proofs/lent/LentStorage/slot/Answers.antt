@@ -1,5 +1,5 @@
 use Rattle.std.proofs.Common.{◌<◌, length, arith}
-use Rattle.exhibit.specs.Lent.{lent_places, slot_place}
+use Rattle.exhibit.specs.Lent.{slot_place}
 use Rattle.std.proofs.lemmas.List.{get_or_default}
 use Rattle.storage.proofs.PlaceFacts.{length-places_of, places_found}
 use Rattle.exhibit.proofs.lent.LentStorage.slot.Goals as goal
