@@ -36,7 +36,12 @@ OTHER = {
     "withValue": "place_with_value",
 }
 
+# Definitions to which port.py gives the name of a function beside them; code calls the function, and only clauses name the definition.
+BESIDE = {"bit_at": "bit_of", "put_bit": "number_with_bit"}
+
 DEFINED = re.compile(r"^\s*(?:abbrev |unfoldable )?(?:pub )?([a-z][A-Za-z0-9]*[A-Z][A-Za-z0-9]*) :(?=\s)", re.M)
+
+CLAUSE = re.compile(r"^(?:ghost use .*|\s*ensures .*)$", re.M)
 
 
 def snake(name):
@@ -59,12 +64,14 @@ def main():
         if new in taken:
             print(f"falls together: {old} and {new}")
     word = re.compile(r"(?<![\w'-])(" + "|".join(sorted(map(re.escape, to), key=len, reverse=True)) + r")(?![\w'-])")
+    beside = re.compile(r"(?<![\w'.-])(" + "|".join(BESIDE) + r")(?![\w'-])")
     for p, text in texts.items():
         if p.endswith(".rt"):
             # A dash in code is a difference; only names in camel case are respelled there, and they stand in clauses alone.
             new = word.sub(lambda m: m[1] if "-" in m[1] else to[m[1]], text)
+            new = CLAUSE.sub(lambda m: beside.sub(lambda n: BESIDE[n[1]], m[0]), new)
         else:
-            new = word.sub(lambda m: to[m[1]], text)
+            new = beside.sub(lambda n: BESIDE[n[1]], word.sub(lambda m: to[m[1]], text))
         if new != text:
             with open(p, "w", encoding="utf-8") as f:
                 f.write(new)
