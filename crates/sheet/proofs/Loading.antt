@@ -1,10 +1,10 @@
 -- Reading the entries of a sheet: what is known of an entry that is taken, and that the first refusal stays.
-use Rattle.std.proofs.Common.{◌≡◌, ℕ, zero, suc, ◌+◌, ◌-◌, ◌/◌, ◌<◌, Bool, true, false, cond, ◌&&◌, ltb, List, Some, None, Ok, Err, Option, Result, sym, refl, ap, ◌∙◌, subst, add-zero, add-suc, add-one, arith}
+use Rattle.std.proofs.Common.{◌≡◌, ℕ, zero, suc, ◌+◌, ◌-◌, ◌/◌, ◌<◌, Bool, true, false, cond, ◌&&◌, ltb, List, Some, None, Ok, Err, Option, Result, sym, refl, ap, ◌∙◌, subst, add-zero, add-suc, add-one, slice_index, arith}
 use Rattle.std.proofs.lemmas.Bool.{ltb-true}
 use Rattle.sheet.specs.declared.operation.Operation.{Operation}
 use Rattle.sheet.specs.Operations.{admits, operation_of}
 use Rattle.sheet.specs.Refusals.{Refused}
-use Rattle.sheet.specs.Sheets.{adding, allowed, entries_to, entry_of, key_at, number_at, putting, rising}
+use Rattle.sheet.specs.Sheets.{adding, allowed, entries_to, entry_of, putting, rising}
 use Rattle.sheet.specs.Tables.{Entries}
 
 pub err_ok : {X : Type 0} {e : Refused} {x : X} → ◌≡◌ {A = Result X Refused} (Err e) (Ok x) → ⊥
@@ -25,30 +25,30 @@ tested true false x e o h = absurd (err_ok h)
 tested false b x e o h = absurd (err_ok h)
 
 -- An entry that is taken: its key is below 1,280 and rises, and its class admits its operation.
-pub record Taken (s : List ℕ) (n i : ℕ) (o : Operation) : Type 0 where
-  pub below : key_at s i < 1280
-  pub rises : rising s i ≡ true
-  pub fits : admits o (key_at s i / 256) ≡ true
-  pub named : operation_of (number_at s n i) ≡ Some o
+pub record Taken (ks ns : List ℕ) (i : ℕ) (o : Operation) : Type 0 where
+  pub below : slice_index ks i < 1280
+  pub rises : rising ks i ≡ true
+  pub fits : admits o (slice_index ks i / 256) ≡ true
+  pub named : operation_of (slice_index ns i) ≡ Some o
 
-pub taken : (s : List ℕ) (n i : ℕ) (o : Operation) → entry_of s n i ≡ Ok o → Taken s n i o
-taken s n i o h =
-    let q = tested (ltb (key_at s i) 1280) (rising s i) (allowed (operation_of (number_at s n i)) (key_at s i / 256) i) _ o h in
-    let p = allowed-taken (operation_of (number_at s n i)) (key_at s i / 256) i o q.2 in
-    record { below = ltb-true (key_at s i) 1280 q.0; rises = q.1; fits = p.0; named = p.1 }
+pub taken : (ks ns : List ℕ) (i : ℕ) (o : Operation) → entry_of ks ns i ≡ Ok o → Taken ks ns i o
+taken ks ns i o h =
+    let q = tested (ltb (slice_index ks i) 1280) (rising ks i) (allowed (operation_of (slice_index ns i)) (slice_index ks i / 256) i) _ o h in
+    let p = allowed-taken (operation_of (slice_index ns i)) (slice_index ks i / 256) i o q.2 in
+    record { below = ltb-true (slice_index ks i) 1280 q.0; rises = q.1; fits = p.0; named = p.1 }
 
 -- One more entry.
-pub entries_more : (s : List ℕ) (n i : ℕ) (t : Entries) → entries_to s n i ≡ Ok t → entries_to s n (i + 1) ≡ adding s n i (Ok t)
-entries_more s n i t h = rw add-one (ap (adding s n i) h)
+pub entries_more : (ks ns : List ℕ) (i : ℕ) (t : Entries) → entries_to ks ns i ≡ Ok t → entries_to ks ns (i + 1) ≡ adding ks ns i (Ok t)
+entries_more ks ns i t h = rw add-one (ap (adding ks ns i) h)
 
-refusal_stays_by : (s : List ℕ) (n i m : ℕ) (e : Refused) → entries_to s n i ≡ Err e → entries_to s n (i + m) ≡ Err e
-refusal_stays_by s n i zero e h = rw add-zero h
-refusal_stays_by s n i (suc m) e h = rw add-suc (ap (adding s n (i + m)) (refusal_stays_by s n i m e h))
+refusal_stays_by : (ks ns : List ℕ) (i m : ℕ) (e : Refused) → entries_to ks ns i ≡ Err e → entries_to ks ns (i + m) ≡ Err e
+refusal_stays_by ks ns i zero e h = rw add-zero h
+refusal_stays_by ks ns i (suc m) e h = rw add-suc (ap (adding ks ns (i + m)) (refusal_stays_by ks ns i m e h))
 
 -- The refusal of an entry is the refusal of all entries up to a later one.
-pub refusal_stays : (s : List ℕ) (n m i : ℕ) (t : Entries) (e : Refused) → i < m → entries_to s n i ≡ Ok t → entry_of s n i ≡ Err e → entries_to s n m ≡ Err e
-refusal_stays s n m i t e lt h bad =
+pub refusal_stays : (ks ns : List ℕ) (m i : ℕ) (t : Entries) (e : Refused) → i < m → entries_to ks ns i ≡ Ok t → entry_of ks ns i ≡ Err e → entries_to ks ns m ≡ Err e
+refusal_stays ks ns m i t e lt h bad =
     let k : (i + 1) + (m - (i + 1)) ≡ m = omega arith in
-    subst (λ (j : ℕ). entries_to s n j ≡ Err e) k
-    (refusal_stays_by s n (i + 1) (m - (i + 1)) e
-    (entries_more s n i t h ∙ ap (λ (r : Result Operation Refused). putting t (key_at s i) r) bad))
+    subst (λ (j : ℕ). entries_to ks ns j ≡ Err e) k
+    (refusal_stays_by ks ns (i + 1) (m - (i + 1)) e
+    (entries_more ks ns i t h ∙ ap (λ (r : Result Operation Refused). putting t (slice_index ks i) r) bad))

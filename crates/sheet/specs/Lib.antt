@@ -1,4 +1,5 @@
 pub mod Operations
+pub mod Names
 pub mod Refusals
 pub mod Tables
 pub mod Sheets

@@ -1,11 +1,9 @@
 -- The operations: each with its number, its name and the classes that admit it, in one table.
-use Rattle.std.specs.Prelude.{ℕ, Bool, true, false, cond, ◌&&◌, List, [], ◌∷◌, Some, None, codes, Option, ◌==◌, nat_lt}
-use Rattle.sheet.specs.declared.operation.Classes.{Classes}
+use Rattle.std.specs.Prelude.{ℕ, Bool, true, false, cond, ◌&&◌, List, [], ◌∷◌, ◌++◌, Some, None, codes, Option, ◌==◌, nat_lt}
+use Rattle.sheet.specs.declared.operation.Format.{Format}
+use Rattle.sheet.specs.declared.operation.Format.TheVariants.{Srs, Rr, Rs}
 use Rattle.sheet.specs.declared.operation.Operation.{Operation}
 use Rattle.sheet.specs.declared.operation.Operation.TheVariants.{L, Lh, A, Ah, S, Sh, C, Ch, N, O, X, St, Sth, La, Lxa, Bc, Bal, Bct, Bo, Sll, Srl, Sra, Ahi, Lhi, Svc, Lps, Ispb, Pc}
-
-abbrev pub classes : Bool → Bool → Bool → Classes
-classes a b c = record { srs = a; rr = b; rs = c }
 
 -- What the table says of an operation.
 pub record Row : Type 0 where
@@ -55,8 +53,12 @@ number_of o = (row_of o).number
 abbrev pub name_of : Operation → List ℕ
 name_of o = (row_of o).name
 
-abbrev pub classes_of : Operation → Classes
-classes_of o = classes (row_of o).srs (row_of o).rr (row_of o).rs
+-- The formats in which the table lets an operation stand.
+abbrev pub formats_where : Bool → Bool → Bool → List Format
+formats_where a b c = cond a (Srs ∷ []) [] ++ (cond b (Rr ∷ []) [] ++ cond c (Rs ∷ []) [])
+
+abbrev pub formats_of : Operation → List Format
+formats_of o = formats_where (row_of o).srs (row_of o).rr (row_of o).rs
 
 -- Every operation, in the order of the numbers.
 abbrev pub operations : List Operation
@@ -71,6 +73,10 @@ among (o ∷ os) n = cond (n == number_of o) (Some o) (among os n)
 -- The operation with a number, or none.
 unfoldable pub operation_of : ℕ → Option Operation
 operation_of n = among operations n
+
+-- The format of a class: 0 is SRS, 1 and 2 are RR, 3 and 4 are RS.
+abbrev pub format_of_class : ℕ → Option Format
+format_of_class c = cond (c == 0) (Some Srs) (cond (nat_lt c 3) (Some Rr) (cond (nat_lt c 5) (Some Rs) None))
 
 -- Whether an operation may stand in a class: 0 is SRS, 1 and 2 are RR, 3 and 4 are RS.
 abbrev pub admits : Operation → ℕ → Bool

@@ -1,5 +1,5 @@
 -- Refused calls: what each case of the code's enums says, as number, place and layer.
-use Rattle.std.specs.Prelude.{ℕ, Ok, Err, Result}
+use Rattle.std.specs.Prelude.{ℕ, List, ◌++◌, Ok, Err, codes, decimal, Result}
 use Rattle.sheet.specs.declared.refusal.Layer.{Layer}
 use Rattle.sheet.specs.declared.refusal.Layer.TheVariants as layer
 use Rattle.sheet.specs.declared.refusal.SheetFault.{SheetFault}
@@ -47,3 +47,12 @@ told_sheet (Err e) = Err (sheet_of e)
 abbrev pub told_storage : {T : Type 0} → Result T StorageFault → Result T Refused
 told_storage (Ok v) = Ok v
 told_storage (Err e) = Err (storage_of e)
+
+-- The name of a layer.
+abbrev pub layer_text : Layer → List ℕ
+layer_text layer.Sheet = codes "sheet"
+layer_text layer.Storage = codes "storage"
+
+-- What a refusal carries, as it is printed: its number, its place and its layer.
+abbrev pub refused_text : Refused → List ℕ
+refused_text r = codes "refused " ++ (decimal r.number ++ (codes " at " ++ (decimal r.place ++ (codes " by " ++ layer_text r.layer))))

@@ -1,7 +1,10 @@
 // Refused calls: why a call was refused, and the number, place and layer that the refusal carries.
-ghost use Rattle.std.specs.Prelude.{◌≡◌};
-ghost use Rattle.sheet.specs.Refusals.{refusal_of};
+ghost use Rattle.std.specs.Prelude.{◌≡◌, Some};
+ghost use Rattle.sheet.specs.Refusals.{layer_text, refusal_of, refused_text};
 ghost use Rattle.sheet.specs.declared.refusal.Refusal.TheVariants as refusing;
+
+use std::error::Error;
+use std::fmt;
 
 // The part of the machine that refuses.
 #[derive(Clone, Copy, PartialEq, Eq, Debug)]
@@ -11,7 +14,7 @@ pub enum Layer {
 }
 
 // A fault of a code sheet. An entry is told by its number from 0.
-#[derive(Clone, Copy)]
+#[derive(Clone, Copy, PartialEq, Eq, Debug)]
 pub enum SheetFault {
     Shape,
     Key(u32),
@@ -19,7 +22,7 @@ pub enum SheetFault {
 }
 
 // A fault of a storage, or of an address in it.
-#[derive(Clone, Copy)]
+#[derive(Clone, Copy, PartialEq, Eq, Debug)]
 pub enum StorageFault {
     Outside(u32),
     Unsound(u32),
@@ -27,7 +30,7 @@ pub enum StorageFault {
 }
 
 // A refusal of one of the operator's calls.
-#[derive(Clone, Copy)]
+#[derive(Clone, Copy, PartialEq, Eq, Debug)]
 pub enum Refusal {
     Sheet(SheetFault),
     Storage(StorageFault),
@@ -48,6 +51,30 @@ impl From<StorageFault> for Refusal {
         Refusal::Storage(fault)
     }
 }
+
+impl fmt::Display for Layer {
+    ghost output = { λ x. Some (layer_text x) };
+
+    fn fmt<W: fmt::Write>(&self, f: &mut fmt::Formatter<W>) -> fmt::Result {
+        f.write_str(match self {
+            Layer::Sheet => "sheet",
+            Layer::Storage => "storage",
+        })
+    }
+}
+
+impl fmt::Display for Refusal {
+    ghost output = { λ x. Some (refused_text (refusal_of x)) };
+
+    fn fmt<W: fmt::Write>(&self, f: &mut fmt::Formatter<W>) -> fmt::Result {
+        let number = self.number();
+        let place = self.place();
+        let layer = self.layer();
+        write!(f, "refused {number} at {place} by {layer}")
+    }
+}
+
+impl Error for Refusal {}
 
 impl Refusal {
     // The number of the refusal.

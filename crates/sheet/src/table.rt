@@ -33,11 +33,7 @@ impl Table {
     pub fn at(&self, key: u16) -> Option<Operation>
         ensures { result ≡ slice_index_or self.now.entries key None }
     {
-        if key < 1280 {
-            self.entries[key as usize]
-        } else {
-            None
-        }
+        self.entries.get(usize::from(key)).copied().flatten()
     }
 
     // The operation at each key.
@@ -54,6 +50,6 @@ impl Table {
         requires fits { admits operation (key / 256) ≡ true }
         ensures { self.new.entries ≡ slice_set self.old.entries key (Some operation) }
     {
-        self.entries[key as usize] = Some(operation);
+        self.entries[usize::from(key)] = Some(operation);
     }
 }

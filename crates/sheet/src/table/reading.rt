@@ -1,9 +1,9 @@
 // A code sheet, read into a table: the count n, then n keys strictly rising, then n operation numbers.
-ghost use Rattle.std.specs.Prelude.{◌≡◌, ◌+◌, ◌*◌, ◌<◌, ◌≤◌, length, if◌then◌else◌, Ok, Err};
+ghost use Rattle.std.specs.Prelude.{◌≡◌, ◌<◌, ◌≤◌, length, if◌then◌else◌, Ok, Err};
 ghost use Rattle.sheet.specs.declared.refusal.Layer.TheVariants as layer;
 ghost use Rattle.sheet.specs.Refusals.{refused, told_sheet};
-ghost use Rattle.sheet.specs.Sheets.{Fills, count_of, entries_to, entry_of, shaped, table_of};
-ghost use Rattle.sheet.specs.Tabled.{tabled};
+ghost use Rattle.sheet.specs.Sheets.{Fills, entries_to, entry_of, keys_of, numbers_of, rising, shaped, table_of};
+ghost use Rattle.sheet.specs.Tabled.{halved, tabled};
 
 use super::Table;
 use crate::operation::Operation;
@@ -15,61 +15,58 @@ impl Table {
         ensures answer { tabled result ≡ table_of sheet.now }
         ensures fills { Fills sheet.now (tabled result) }
     {
-        let n = count(sheet)?;
-        entries(sheet, n)
+        let (keys, numbers) = halves(sheet)?;
+        filled(keys, numbers)
     }
 }
 
-// The count of entries.
-fn count(sheet: &[u16]) -> Result<usize, SheetFault>
-    ensures { told_sheet result ≡ (if shaped sheet.now then Ok (count_of sheet.now) else Err (refused 1 0 layer.Sheet)) }
+// The keys and the operation numbers.
+fn halves(sheet: &[u16]) -> Result<(&[u16], &[u16]), SheetFault>
+    ensures { halved result ≡ (if shaped sheet.now then Ok (keys_of sheet.now, numbers_of sheet.now) else Err (refused 1 0 layer.Sheet)) }
 {
-    if sheet.len() == 0 {
+    let (count, entries) = sheet.split_first().ok_or(SheetFault::Shape)?;
+    let n = usize::from(*count);
+    if n == 0 || n > 1280 || entries.len() != 2 * n {
         return Err(SheetFault::Shape);
     }
-    let n = sheet[0] as usize;
-    if n == 0 || n > 1280 || sheet.len() != 1 + 2 * n {
-        return Err(SheetFault::Shape);
-    }
-    Ok(n)
+    Ok(entries.split_at(n))
+}
+
+// Whether key i is above the one before it.
+fn rises(keys: &[u16], i: usize) -> bool
+    requires { i < length keys.now }
+    ensures { result ≡ rising keys.now i }
+{
+    i == 0 || keys[i - 1] < keys[i]
 }
 
 // The operation of entry i.
-fn entry(sheet: &[u16], n: usize, i: usize) -> Result<Operation, SheetFault>
-    requires below { i < n }
-    requires small { n ≤ 1280 }
-    requires whole { length sheet.now ≡ 1 + 2 * n }
-    ensures { told_sheet result ≡ entry_of sheet.now n i }
+fn entry(keys: &[u16], numbers: &[u16], i: usize) -> Result<Operation, SheetFault>
+    requires below { i < length keys.now }
+    requires paired { length keys.now ≡ length numbers.now }
+    requires small { length keys.now ≤ 1280 }
+    ensures { told_sheet result ≡ entry_of keys.now numbers.now i }
 {
-    let key = sheet[1 + i];
-    if key >= 1280 {
+    let key = keys[i];
+    if key >= 1280 || !rises(keys, i) {
         return Err(SheetFault::Key(i as u32));
     }
-    if i > 0 && sheet[1 + (i - 1)] >= key {
-        return Err(SheetFault::Key(i as u32));
-    }
-    match Operation::from_number(sheet[1 + n + i]) {
-        None => Err(SheetFault::Code(i as u32)),
-        Some(operation) => {
-            if operation.admits(key / 256) {
-                Ok(operation)
-            } else {
-                Err(SheetFault::Code(i as u32))
-            }
-        }
+    match Operation::try_from(numbers[i]) {
+        Ok(operation) if operation.admits(key / 256) => Ok(operation),
+        _ => Err(SheetFault::Code(i as u32)),
     }
 }
 
 // The table of all entries.
-fn entries(sheet: &[u16], n: usize) -> Result<Table, SheetFault>
-    requires small { n ≤ 1280 }
-    requires whole { length sheet.now ≡ 1 + 2 * n }
-    ensures { tabled result ≡ entries_to sheet.now n n }
+fn filled(keys: &[u16], numbers: &[u16]) -> Result<Table, SheetFault>
+    requires paired { length keys.now ≡ length numbers.now }
+    requires small { length keys.now ≤ 1280 }
+    ensures { tabled result ≡ entries_to keys.now numbers.now (length keys.now) }
 {
     let mut table = Table::empty();
-    for i in 0..n {
-        let operation = entry(sheet, n, i)?;
-        table.put(sheet[1 + i], operation);
+    for (i, key) in keys.iter().enumerate() {
+        let operation = entry(keys, numbers, i)?;
+        table.put(*key, operation);
     }
     Ok(table)
 }

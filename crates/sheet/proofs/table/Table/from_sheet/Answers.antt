@@ -1,19 +1,18 @@
 use Rattle.std.proofs.Common.{◌≡◌, sym, subst, rules}
 use Rattle.sheet.specs.Sheets.{Fills, table_of}
 use Rattle.sheet.specs.Tabled.{tabled}
-use Rattle.sheet.proofs.Filling.{fills}
+use Rattle.sheet.proofs.Filling.{fills, halves_fill}
 use Rattle.sheet.proofs.table.Table.from_sheet.Goals as goal
 
-pub returns-in_err-n : goal.returns-in_err-n
+pub returns-in_err-keys : goal.returns-in_err-keys
 unfolding table_of
-returns-in_err-n c =
+returns-in_err-keys c =
     let s = c.args.sheet.now in
     let e : tabled c.from_residual.result ≡ table_of s = search rules in
     record { answer = e; fills = subst (Fills s) (sym e) (fills s) }
 
 pub returns : goal.returns
-unfolding table_of
 returns c =
     let s = c.args.sheet.now in
-    let e : tabled c.entries.result ≡ table_of s = search rules in
+    let e : tabled c.filled.result ≡ table_of s = halves_fill s _ _ _ c.in_ok-keys.ensures c.filled.ensures in
     record { answer = e; fills = subst (Fills s) (sym e) (fills s) }
