@@ -1,23 +1,20 @@
 -- The text of an answer.
-use Rattle.std.specs.Prelude.{ℕ, List, ◌++◌, codes, decimal}
-use Rattle.sheet.specs.Refusals.{Refused as Carried, refusal_of}
-use Rattle.sheet.specs.declared.refusal.Layer.{Layer}
-use Rattle.sheet.specs.declared.refusal.Layer.TheVariants.{Sheet, Storage}
+use Rattle.std.specs.Prelude.{ℕ, List, Some, Ok, Err, codes, Option, Result}
+use Rattle.sheet.specs.Refusals.{Refused, refused_text, refusal_of}
+use Rattle.sheet.specs.declared.refusal.Refusal.{Refusal}
 use Rattle.listing.specs.Numbers.{halfword_text}
-use Rattle.listing.specs.declared.answer.Answer.{Answer}
-use Rattle.listing.specs.declared.answer.Answer.TheVariants.{Done, Halfword, Refused}
 
--- The name of a layer.
-abbrev pub layer_text : Layer → List ℕ
-layer_text Sheet = codes "sheet"
-layer_text Storage = codes "storage"
+-- The answer of a call that serves without a value: that it is done, or what its refusal carries.
+abbrev pub done_text : Result (Unit {0}) Refused → List ℕ
+done_text (Ok u) = codes "done"
+done_text (Err e) = refused_text e
 
--- What a refusal carries: its number, its place and its layer.
-abbrev pub refused_text : Carried → List ℕ
-refused_text r = codes "refused " ++ (decimal r.number ++ (codes " at " ++ (decimal r.place ++ (codes " by " ++ layer_text r.layer))))
+-- The answer of a call that reads: the halfword, or what its refusal carries.
+abbrev pub value_text : Result ℕ Refused → List ℕ
+value_text (Ok h) = halfword_text h
+value_text (Err e) = refused_text e
 
--- The text of an answer.
-abbrev pub answer_text : Answer → List ℕ
-answer_text Done = codes "done"
-answer_text (Halfword value) = halfword_text value
-answer_text (Refused refusal) = refused_text (refusal_of refusal)
+-- What a printed answer writes: what is served, as it writes itself, or the refusal.
+abbrev pub answer_output : {T : Type 0} → (T → Option (List ℕ)) → Result T Refusal → Option (List ℕ)
+answer_output output (Ok served) = output served
+answer_output output (Err refusal) = Some (refused_text (refusal_of refusal))

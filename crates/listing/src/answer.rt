@@ -1,42 +1,50 @@
 // The answer of a call, as it is printed.
-ghost use Rattle.std.specs.Prelude.{◌≡◌, Some};
-ghost use Rattle.listing.specs.Answers.{layer_text, answer_text};
+ghost use Rattle.std.specs.Prelude.{◌≡◌, Some, codes};
+ghost use Rattle.listing.specs.Answers.{answer_output, done_text, value_text};
+ghost use Rattle.listing.specs.Numbers.{halfword_text};
+ghost use Rattle.sheet.specs.Refusals.{told};
 
-use crate::number;
-use sheet::refusal::{Layer, Refusal};
+use crate::number::Halfword;
+use sheet::refusal::Refusal;
 use std::fmt;
 
-// What a call answers: that it is done, the halfword that it read, or its refusal.
+// A call that serves and answers no value.
+#[derive(Clone, Copy, PartialEq, Eq, Debug)]
+pub(crate) struct Done;
+
+// What a call served, or its refusal.
 #[derive(Clone, Copy)]
-pub enum Answer {
-    Done,
-    Halfword(u16),
-    Refused(Refusal),
+pub(crate) struct Answer<T>(Result<T, Refusal>);
+
+// The answer of a call that serves without a value.
+pub(crate) fn serving(answer: Result<(), Refusal>) -> Answer<Done>
+    ensures { answer_output (λ _. Some (codes "done")) result.0 ≡ Some (done_text (told answer)) }
+{
+    Answer(answer.map(|()| Done))
 }
 
-// The name of a layer.
-fn layer_name(layer: Layer) -> &'static str
-    ensures { result.now ≡ layer_text layer }
+// The answer of a call that reads.
+pub(crate) fn reading(answer: Result<u16, Refusal>) -> Answer<Halfword>
+    ensures { answer_output (λ h. Some (halfword_text h.0)) result.0 ≡ Some (value_text (told answer)) }
 {
-    match layer {
-        Layer::Sheet => "sheet",
-        Layer::Storage => "storage",
+    Answer(answer.map(|value| Halfword(value)))
+}
+
+impl fmt::Display for Done {
+    ghost output = { λ _. Some (codes "done") };
+
+    fn fmt<W: fmt::Write>(&self, f: &mut fmt::Formatter<W>) -> fmt::Result {
+        f.write_str("done")
     }
 }
 
-impl fmt::Display for Answer {
-    ghost output = { λ x. Some (answer_text x) };
+impl<T: fmt::Display> fmt::Display for Answer<T> {
+    ghost output = { λ x. answer_output T.output x.0 };
 
     fn fmt<W: fmt::Write>(&self, f: &mut fmt::Formatter<W>) -> fmt::Result {
-        match *self {
-            Answer::Done => f.write_str("done"),
-            Answer::Halfword(value) => write!(f, "{}", number::Halfword(value)),
-            Answer::Refused(refusal) => {
-                let number = refusal.number();
-                let place = refusal.place();
-                let layer = layer_name(refusal.layer());
-                write!(f, "refused {number} at {place} by {layer}")
-            }
+        match &self.0 {
+            Ok(served) => write!(f, "{served}"),
+            Err(refusal) => write!(f, "{refusal}"),
         }
     }
 }

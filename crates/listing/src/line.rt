@@ -1,17 +1,25 @@
 // The lines that the program prints.
-ghost use Rattle.std.specs.Prelude.{◌≡◌, Some};
-ghost use Rattle.listing.specs.Lines.{kind_text, bit_text, guard_text, state_text, line_text};
+ghost use Rattle.std.specs.Prelude.{◌≡◌, cond, Some};
+ghost use Rattle.std.specs.Result.{result_ok};
+ghost use Rattle.listing.specs.Lines.{kind_named, kind_text, line_text};
 
-use crate::answer::Answer;
+use crate::answer::{reading, serving};
 use crate::number::{Address, Halfword};
+use sheet::refusal::Refusal;
+use std::error::Error;
 use std::fmt;
+use std::str::FromStr;
 
 // The kind of a storage.
-#[derive(Clone, Copy)]
+#[derive(Clone, Copy, PartialEq, Eq, Debug)]
 pub enum Kind {
     Cells,
     Packed,
 }
+
+// A word that names no kind of storage.
+#[derive(Clone, Copy, PartialEq, Eq, Debug)]
+pub struct UnknownKind;
 
 // One line of output.
 #[derive(Clone, Copy)]
@@ -19,13 +27,13 @@ pub enum Line {
     // The storage was made, with a number of places.
     Storage(Kind, u32),
     // The code sheet was loaded.
-    Load(Answer),
+    Load(Result<(), Refusal>),
     // A value was deposited at an address.
-    Deposit(u32, u16, Answer),
+    Deposit(u32, u16, Result<(), Refusal>),
     // The protect bit of an address was set.
-    Protect(u32, bool, Answer),
+    Protect(u32, bool, Result<(), Refusal>),
     // The value at an address was read.
-    Examine(u32, Answer),
+    Examine(u32, Result<u16, Refusal>),
     // What a place holds.
     Place {
         address: u32,
@@ -41,32 +49,41 @@ impl fmt::Display for Kind {
     ghost output = { λ x. Some (kind_text x) };
 
     fn fmt<W: fmt::Write>(&self, f: &mut fmt::Formatter<W>) -> fmt::Result {
-        match *self {
-            Kind::Cells => f.write_str("cells"),
-            Kind::Packed => f.write_str("packed"),
+        f.write_str(match self {
+            Kind::Cells => "cells",
+            Kind::Packed => "packed",
+        })
+    }
+}
+
+impl fmt::Display for UnknownKind {
+    fn fmt<W: fmt::Write>(&self, f: &mut fmt::Formatter<W>) -> fmt::Result {
+        f.write_str("no such kind of storage")
+    }
+}
+
+impl Error for UnknownKind {}
+
+// The kind of storage with a name.
+impl FromStr for Kind {
+    type Err = UnknownKind;
+
+    ghost from_str_gives = { λ bs r. result_ok r ≡ kind_named bs };
+
+    fn from_str(name: &str) -> Result<Kind, UnknownKind> {
+        match name {
+            "cells" => Ok(Kind::Cells),
+            "packed" => Ok(Kind::Packed),
+            _ => Err(UnknownKind),
         }
     }
 }
 
-// A protect bit as a digit.
-fn bit_digit(bit: bool) -> &'static str
-    ensures { result.now ≡ bit_text bit }
+// One of two words.
+fn word(flag: bool, yes: &'static str, no: &'static str) -> &'static str
+    ensures { result.now ≡ cond flag yes.now no.now }
 {
-    if bit { "1" } else { "0" }
-}
-
-// Whether a place is protected, as a word.
-fn guard_word(protected: bool) -> &'static str
-    ensures { result.now ≡ guard_text protected }
-{
-    if protected { "protected" } else { "open" }
-}
-
-// Whether a place is sound, as a word.
-fn state_word(sound: bool) -> &'static str
-    ensures { result.now ≡ state_text sound }
-{
-    if sound { "sound" } else { "unsound" }
+    if flag { yes } else { no }
 }
 
 impl fmt::Display for Line {
@@ -75,32 +92,36 @@ impl fmt::Display for Line {
     fn fmt<W: fmt::Write>(&self, f: &mut fmt::Formatter<W>) -> fmt::Result {
         match *self {
             Line::Storage(kind, size) => write!(f, "storage {kind} {size}"),
-            Line::Load(answer) => write!(f, "load: {answer}"),
+            Line::Load(answer) => write!(f, "load: {}", serving(answer)),
             Line::Deposit(address, value, answer) => {
                 write!(
                     f,
-                    "deposit {} {}: {answer}",
+                    "deposit {} {}: {}",
                     Address(address),
-                    Halfword(value)
+                    Halfword(value),
+                    serving(answer)
                 )
             }
             Line::Protect(address, bit, answer) => {
                 write!(
                     f,
-                    "protect {} {}: {answer}",
+                    "protect {} {}: {}",
                     Address(address),
-                    bit_digit(bit)
+                    word(bit, "1", "0"),
+                    serving(answer)
                 )
             }
-            Line::Examine(address, answer) => write!(f, "examine {}: {answer}", Address(address)),
+            Line::Examine(address, answer) => {
+                write!(f, "examine {}: {}", Address(address), reading(answer))
+            }
             Line::Place {
                 address,
                 value,
                 protected,
                 sound,
             } => {
-                let guard = guard_word(protected);
-                let state = state_word(sound);
+                let guard = word(protected, "protected", "open");
+                let state = word(sound, "sound", "unsound");
                 write!(
                     f,
                     "{}: {} {guard} {state}",

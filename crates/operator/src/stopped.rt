@@ -11,6 +11,6 @@ mod calls;
 pub struct Stopped {
     state: State,
     ghost admitted: { Admitted state.table },
-    ghost low: { Narrow state.low.sectors },
-    ghost high: { Narrow state.high.sectors },
+    ghost low: { Narrow state.low },
+    ghost high: { Narrow state.high },
 }

@@ -6,20 +6,16 @@ use lib.ListN.{replicate}
 use Rattle.sheet.proofs.Admitting.{admitted_empty}
 use Rattle.sheet.proofs.Lists.{get_or_same}
 use Rattle.sheet.specs.Tables.{Admitted}
-use Rattle.processor.specs.Sectors.{Narrow}
-use Rattle.processor.specs.State.{fresh_state}
+use Rattle.processor.specs.Sectors.{Narrow, blank_register}
+use Rattle.processor.specs.declared.state.Register.{Register}
+use Rattle.processor.specs.State.{blank_registers, fresh_state}
 
 pub fresh_admitted : Admitted fresh_state.table
 unfolding fresh_state
 fresh_admitted = admitted_empty
 
-narrow_zero : (n : ℕ) → Narrow (replicate n 0)
-narrow_zero n k = subst (λ (x : ℕ). x < 16) (sym (get_or_same n 0 k)) (omega arith)
+narrow_blank : (n : ℕ) → Narrow (replicate n blank_register)
+narrow_blank n k = subst (λ (r : Register). r.sector < 16) (sym (get_or_same n blank_register k)) (omega arith)
 
-pub fresh_low : Narrow fresh_state.low.sectors
-unfolding fresh_state
-fresh_low = narrow_zero 8
-
-pub fresh_high : Narrow fresh_state.high.sectors
-unfolding fresh_state
-fresh_high = narrow_zero 8
+pub fresh_narrow : Narrow blank_registers
+fresh_narrow = narrow_blank 8

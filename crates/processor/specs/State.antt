@@ -1,16 +1,17 @@
 -- What a processor holds: a fresh one, and one whose table is replaced.
-use Rattle.std.specs.Prelude.{false, replicate}
+use Rattle.std.specs.Prelude.{false, List, replicate}
 use Rattle.processor.specs.declared.state.Pending.{Pending}
-use Rattle.processor.specs.declared.state.RegisterSet.{RegisterSet}
+use Rattle.processor.specs.declared.state.Register.{Register}
 use Rattle.processor.specs.declared.state.State.{State}
+use Rattle.processor.specs.Sectors.{blank_register}
 use Rattle.sheet.specs.Tables.{Entries, empty_entries}
 use Rattle.word.specs.declared.psw.Psw.{Psw}
 
 abbrev pub zero_psw : Psw
 zero_psw = record { counter = 0; status = 0; control = 0; code = 0 }
 
-abbrev pub blank_registers : RegisterSet
-blank_registers = record { words = replicate 8 0; sectors = replicate 8 0 }
+abbrev pub blank_registers : List Register
+blank_registers = replicate 8 blank_register
 
 abbrev pub no_levels : Pending
 no_levels = record { levels = replicate 5 false }

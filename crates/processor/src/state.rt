@@ -8,15 +8,17 @@ use sheet::operation::Operation;
 use sheet::table::Table;
 use word::psw::Psw;
 
-// Eight fullword registers, each with its 4-bit sector register.
-#[derive(Clone, Copy)]
-pub struct RegisterSet {
-    words: [u32; 8],
-    sectors: [u8; 8],
+// A fullword register, with the 4-bit sector register that is part of it.
+#[derive(Clone, Copy, PartialEq, Eq, Debug)]
+pub struct Register {
+    word: u32,
+    sector: u8,
 }
 
+pub type RegisterSet = [Register; 8];
+
 // The external levels 1 to 5 that are pending.
-#[derive(Clone, Copy)]
+#[derive(Clone, Copy, PartialEq, Eq, Debug)]
 pub struct Pending {
     levels: [bool; 5],
 }
@@ -33,10 +35,7 @@ pub struct State {
 fn zero_registers() -> RegisterSet
     ensures { result ≡ blank_registers }
 {
-    RegisterSet {
-        words: [0; 8],
-        sectors: [0; 8],
-    }
+    [Register { word: 0, sector: 0 }; 8]
 }
 
 impl State {
@@ -44,8 +43,8 @@ impl State {
     pub fn fresh() -> State
         ensures fresh { result ≡ fresh_state }
         ensures admitted { Admitted result.table }
-        ensures low { Narrow result.low.sectors }
-        ensures high { Narrow result.high.sectors }
+        ensures low { Narrow result.low }
+        ensures high { Narrow result.high }
     {
         let psw = Psw {
             counter: 0,

@@ -3,7 +3,7 @@ use Rattle.sheet.specs.Tables.{Admitted, empty_entries}
 use Rattle.processor.specs.declared.state.State.{State}
 use Rattle.processor.specs.Sectors.{Narrow}
 use Rattle.processor.specs.State.{fresh_state, no_levels, zero_psw}
-use Rattle.processor.proofs.Fresh.{fresh_admitted, fresh_high, fresh_low}
+use Rattle.processor.proofs.Fresh.{fresh_admitted, fresh_narrow}
 use Rattle.processor.proofs.state.State.fresh.Goals as goal
 
 pub returns : goal.returns
@@ -17,6 +17,6 @@ returns c =
     record {
       fresh = e;
       admitted = subst (λ (s : State). Admitted s.table) (sym e) fresh_admitted;
-      low = subst (λ (s : State). Narrow s.low.sectors) (sym e) fresh_low;
-      high = subst (λ (s : State). Narrow s.high.sectors) (sym e) fresh_high;
+      low = subst (λ (s : State). Narrow s.low) (sym e) fresh_narrow;
+      high = subst (λ (s : State). Narrow s.high) (sym e) fresh_narrow;
     }
