@@ -11,6 +11,7 @@ pub struct Halfword(pub u16);
 impl fmt::Display for Halfword {
     ghost output = { λ x. Some (halfword_text x.0) };
 
+    #[tactic(auto, using(crate::proofs::Hex::halfword_digits))]
     fn fmt<W: fmt::Write>(&self, f: &mut fmt::Formatter<W>) -> fmt::Result {
         let Halfword(value) = *self;
         write!(f, "{value:04X}")
@@ -24,6 +25,7 @@ pub struct Address(pub u32);
 impl fmt::Display for Address {
     ghost output = { λ x. Some (address_text x.0) };
 
+    #[tactic(auto, using(crate::proofs::Hex::address_digits))]
     fn fmt<W: fmt::Write>(&self, f: &mut fmt::Formatter<W>) -> fmt::Result {
         let Address(place) = *self;
         write!(f, "{place:05X}")
