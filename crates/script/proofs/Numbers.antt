@@ -1,10 +1,10 @@
 -- What the library reads is the number that the script writes.
-use Rattle.std.proofs.Common.{◌≡◌, ℕ, ◌<◌, ◌≤◌, true, false, eqb, ltb, List, [], ◌∷◌, length, get_or, Some, None, Option, sym, refl, ap, ◌∙◌, inl, inr, arith}
+use Rattle.std.proofs.Common.{◌≡◌, ℕ, ◌<◌, ◌≤◌, true, eqb, ltb, List, [], ◌∷◌, length, get_or, Some, None, Option, sym, refl, ap, ◌∙◌, inl, inr, arith}
 use Rattle.std.specs.Option.{SomeIff}
 use Rattle.std.specs.Str.Parse.{IsNumeral, AllDigits, digits_value}
 use Rattle.std.specs.Char.{digit_value}
 use Rattle.std.proofs.lemmas.Bool.{eqb-true, lt-ltb, ltb-true, and_from, and_parts, cond-true, cond-false, cases_Bool}
-use Rattle.script.specs.Numbers.{digits_only, writes, number_in}
+use Rattle.script.specs.Numbers.{digits_only, writes, number_by}
 
 -- A sign is no digit.
 pub no_sign : (radix : ℕ) (bs : List ℕ) → radix ≤ 36 → IsNumeral radix bs → eqb (get_or bs 0 0) 43 ≡ true → ⊥
@@ -13,11 +13,6 @@ no_sign radix (c ∷ cs) few n e =
     let is : c ≡ 43 = eqb-true c 43 e in
     let low : digit_value 43 < radix = rw is at n.1.0 in
     omega (arith, low)
-
--- An empty text has no sign.
-pub no_bytes : (bs : List ℕ) → length bs ≡ 0 → false ≡ eqb (get_or bs 0 0) 43
-no_bytes [] e = refl
-no_bytes (c ∷ cs) e = absurd (omega (arith, e))
 
 -- The test of digits holds of digits.
 pub digits_pass : (radix : ℕ) (bs : List ℕ) → AllDigits radix bs → digits_only radix bs ≡ true
@@ -43,10 +38,15 @@ passes_number radix limit bs e =
     let rest = and_parts _ _ parts.1 in
     ((ltb-true 0 (length bs) parts.0, pass_digits radix bs rest.0), ltb-true (digits_value radix bs) limit rest.1)
 
--- What is read of a number below the limit, and of nothing else, is the number that the bytes write.
-pub read_is : (radix limit : ℕ) (bs : List ℕ) (r : Option ℕ) → SomeIff r (IsNumeral radix bs × (digits_value radix bs < limit)) (digits_value radix bs) → r ≡ number_in radix limit bs
-unfolding number_in
-read_is radix limit bs (Some n) h = ap (λ v. Some v) h.1 ∙ sym (cond-true (writes radix limit bs) _ _ (number_passes radix limit bs h.0))
-read_is radix limit bs None h =
-    let way = cases_Bool (writes radix limit bs) in
-    sym (cond-false (writes radix limit bs) _ _ (elim way [ inl e ↦ absurd (h (passes_number radix limit bs e)) | inr e ↦ e ]))
+module _ {N : Type 0} (from_value : ℕ → N) (radix limit : ℕ) (bs : List ℕ) where
+  -- What is read of a number below the limit, and of nothing else, is the number that the bytes write.
+  pub read_is : (r : Option N) → SomeIff r (IsNumeral radix bs × (digits_value radix bs < limit)) (from_value (digits_value radix bs)) → r ≡ number_by from_value radix limit bs
+  unfolding number_by
+  read_is (Some n) h = ap (λ v. Some v) h.1 ∙ sym (cond-true (writes radix limit bs) _ _ (number_passes radix limit bs h.0))
+  read_is None h =
+      let way = cases_Bool (writes radix limit bs) in
+      sym (cond-false (writes radix limit bs) _ _ (elim way [ inl e ↦ absurd (h (passes_number radix limit bs e)) | inr e ↦ e ]))
+
+  -- After a plus sign the bytes write no number.
+  pub plus_is_none : radix ≤ 36 → eqb (get_or bs 0 0) 43 ≡ true → None ≡ number_by from_value radix limit bs
+  plus_is_none few e = read_is None (λ n. no_sign radix bs few n.0 e)

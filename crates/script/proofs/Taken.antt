@@ -1,72 +1,69 @@
 -- Words that are taken one by one, and the numbers that they write.
-use Rattle.std.proofs.Common.{◌≡◌, ℕ, zero, suc, ◌+◌, ◌<◌, ◌≤◌, List, [], ◌∷◌, ◌++◌, length, get_or, drop, Some, None, Ok, Err, Option, Result, sym, refl, ap, ◌∙◌, subst, append_assoc, append-nil, add-one, drop-cons, Bor}
-use Rattle.std.proofs.lemmas.List.{drop_all}
+use Rattle.std.proofs.Common.{◌≡◌, ℕ, zero, suc, ◌<◌, List, [], ◌∷◌, ◌++◌, length, get_or, Some, None, Ok, Err, Option, sym, refl, ap, ◌∙◌, Bor, arith}
+use Rattle.std.specs.Bool.{⊤}
+use Rattle.std.specs.Iterator.{DrainsIf, Yields}
 use Rattle.std.specs.Option.{ok_or}
-use Rattle.script.specs.Numbers.{before, number_in, numbers_in}
-use Rattle.script.specs.Commands.{Agrees, ReadAs, said_in}
-use Rattle.script.specs.Words.{First, Firsts, LineWords, texts, word_at}
-use Rattle.script.specs.declared.command.Command.{Command}
+use Rattle.std.specs.Str.Iter.{split_whitespace_rest, split_whitespace_steps}
+use Rattle.std.specs.declared.str.SplitWhitespace.{SplitWhitespace}
+use Rattle.script.specs.Numbers.{before, numbers_by}
+use Rattle.script.specs.Words.{TextWords, texts}
 use Rattle.script.specs.declared.unread.Unread.{Unread}
-use Rattle.script.specs.declared.unread.Unread.TheVariants.{Memory, Text}
+use Rattle.script.specs.declared.unread.Unread.TheVariants.{Text}
 
--- One more word.
-pub firsts_more : (text : List ℕ) (ws : List (List ℕ)) (after w rest : List ℕ) → Firsts text ws after → First after w rest → Firsts text (ws ++ (w ∷ [])) rest
-firsts_more text [] after w rest e f = let P : List ℕ → Type 0 = λ t. First t w rest in (rest, subst P (sym e) f, refl)
-firsts_more text (v ∷ vs) after w rest h f = (h.0, h.1, firsts_more h.0 vs after w rest h.2 f)
+taken : (s t u : SplitWhitespace) (ws : List (Bor (List ℕ))) → Yields split_whitespace_steps s ws t → split_whitespace_steps t None u → TextWords (split_whitespace_rest s) (texts ws)
+taken s t u [] e end = (split_whitespace_rest t, ap split_whitespace_rest e, end.1)
+taken s t u (w ∷ ws) h end =
+    let rest = taken h.0 t u ws h.2 end in
+    (rest.0, (split_whitespace_rest h.0, h.1, rest.1), rest.2)
 
-pub texts_more : (ws : List (Bor (List ℕ))) (w : Bor (List ℕ)) → texts (ws ++ (w ∷ [])) ≡ texts ws ++ (w.now ∷ [])
-texts_more [] w = refl
-texts_more (v ∷ vs) w = ap (λ (xs : List (List ℕ)). v.now ∷ xs) (texts_more vs w)
+-- What the library gives of a text, up to the end, are its words.
+pub words_taken : (s : SplitWhitespace) (text : List ℕ) (ws xs : List (Bor (List ℕ))) → split_whitespace_rest s ≡ text → ws ≡ xs → DrainsIf split_whitespace_steps ⊤ s xs → TextWords text (texts ws)
+words_taken s text ws xs e f d = let end = d.2 tt in rw (← e, f) (taken s d.0 end.0 xs d.1 end.1)
 
-pub length-texts : (ws : List (Bor (List ℕ))) → length ws ≡ length (texts ws)
-length-texts [] = refl
-length-texts (w ∷ ws) = ap suc (length-texts ws)
+module _ {N : Type 0} where
+  -- A number after others, where there is none missing.
+  after : Option (List N) → Option N → Option (List N)
+  after None n = None
+  after (Some ns) None = None
+  after (Some ns) (Some n) = Some (ns ++ (n ∷ []))
 
-pub texts-at : (ws : List (Bor (List ℕ))) (i : ℕ) (d : Bor (List ℕ)) → d.now ≡ [] → (get_or ws i d).now ≡ word_at (texts ws) i
-texts-at [] i d e = e
-texts-at (w ∷ ws) zero d e = refl
-texts-at (w ∷ ws) (suc i) d e = texts-at ws i d e
+  after_none : (n : Option N) → before n (Some []) ≡ after (Some []) n
+  unfolding after
+  after_none None = refl
+  after_none (Some n) = refl
 
--- Numbers that were read, and those that the words to come write.
-abbrev pub joined : List ℕ → Option (List ℕ) → Option (List ℕ)
-joined ns (Some ms) = Some (ns ++ ms)
-joined ns None = None
+  before_after : (m : Option N) (ns : Option (List N)) (n : Option N) → before m (after ns n) ≡ after (before m ns) n
+  unfolding after
+  before_after None ns n = refl
+  before_after (Some m) None n = refl
+  before_after (Some m) (Some ns) None = refl
+  before_after (Some m) (Some ns) (Some n) = refl
 
-pub joined_none : (o : Option (List ℕ)) → joined [] o ≡ o
-joined_none (Some ms) = refl
-joined_none None = refl
+  before_none : (n : Option N) → None ≡ before n None
+  before_none None = refl
+  before_none (Some n) = refl
 
-joined_one : (ns : List ℕ) (n : ℕ) (o : Option (List ℕ)) → joined (ns ++ (n ∷ [])) o ≡ joined ns (before (Some n) o)
-joined_one ns n (Some ms) = ap (λ (xs : List ℕ). Some xs) (append_assoc ns (n ∷ []) ms)
-joined_one ns n None = refl
+  module _ (reading : List ℕ → Option N) where
+    push : (ws : List (Bor (List ℕ))) (w : Bor (List ℕ)) → numbers_by reading (texts (ws ++ (w ∷ []))) ≡ after (numbers_by reading (texts ws)) (reading w.now)
+    push [] w = after_none (reading w.now)
+    push (v ∷ vs) w = ap (before (reading v.now)) (push vs w) ∙ before_after (reading v.now) (numbers_by reading (texts vs)) (reading w.now)
 
-module _ (radix limit : ℕ) (ws : List (List ℕ)) (i : ℕ) (h : i < length ws) where
-  here : numbers_in radix limit (drop i ws) ≡ before (number_in radix limit (word_at ws i)) (numbers_in radix limit (drop (i + 1) ws))
-  here = rw (add-one, drop-cons ws i []) refl
+    -- One more word that writes a number.
+    pub numbers_push : (ws : List (Bor (List ℕ))) (w : Bor (List ℕ)) (ns : List N) (n : N) → Some ns ≡ numbers_by reading (texts ws) → Some n ≡ reading w.now → Some (ns ++ (n ∷ [])) ≡ numbers_by reading (texts (ws ++ (w ∷ [])))
+    unfolding after
+    numbers_push ws w ns n e f = ap (λ o. after o (Some n)) e ∙ (ap (after (numbers_by reading (texts ws))) f ∙ sym (push ws w))
 
-  -- One more word that writes a number, and one that writes none.
-  pub numbers_more : (ns : List ℕ) (n : ℕ) → Some n ≡ number_in radix limit (word_at ws i) → joined (ns ++ (n ∷ [])) (numbers_in radix limit (drop (i + 1) ws)) ≡ joined ns (numbers_in radix limit (drop i ws))
-  numbers_more ns n e =
-      joined_one ns n (numbers_in radix limit (drop (i + 1) ws))
-      ∙ (ap (λ (o : Option ℕ). joined ns (before o (numbers_in radix limit (drop (i + 1) ws)))) e ∙ ap (joined ns) (sym here))
+    -- A word that writes none.
+    pub numbers_none : (ws : List (Bor (List ℕ))) (i : ℕ) (w : Bor (List ℕ)) → i < length ws → w ≡ get_or ws i w → None ≡ reading w.now → None ≡ numbers_by reading (texts ws)
+    numbers_none [] i w h e f = absurd (omega (arith, h))
+    numbers_none (v ∷ vs) zero w h e f = ap (λ (o : Option N). before o (numbers_by reading (texts vs))) (f ∙ ap (λ x. reading x.now) e)
+    numbers_none (v ∷ vs) (suc i) w h e f = before_none (reading v.now) ∙ ap (before (reading v.now)) (numbers_none vs i w (omega (arith, h)) e f)
 
-  pub numbers_none : (ns : List ℕ) → None ≡ number_in radix limit (word_at ws i) → None ≡ joined ns (numbers_in radix limit (drop i ws))
-  numbers_none ns e =
-      ap (λ (o : Option ℕ). joined ns (before o (numbers_in radix limit (drop (i + 1) ws)))) e ∙ ap (joined ns) (sym here)
+  -- A word that says nothing is why a line cannot be read.
+  pub nothing_said : (o : Option N) (e : Unread) → Err e ≡ ok_or o Text → (None ≡ o) × (e ≡ Text)
+  nothing_said None e said = (refl, cc)
+  nothing_said (Some n) e said = cc
 
--- No word is left.
-pub numbers_all : (radix limit : ℕ) (ws : List (List ℕ)) (i : ℕ) (ns : List ℕ) → length ws ≤ i → Some ns ≡ joined ns (numbers_in radix limit (drop i ws))
-numbers_all radix limit ws i ns h = rw (drop_all i ws h) (ap (λ (xs : List ℕ). Some xs) (sym (append-nil ns)))
-
-err_is : (e f : Unread) → ◌≡◌ {A = Result ℕ Unread} (Err e) (Err f) → e ≡ f
-err_is e f p = cc
-
--- A word that writes no number is why a line cannot be read.
-pub no_number : (o : Option ℕ) (e : Unread) → Err e ≡ ok_or o Text → o ≡ None → e ≡ Text
-no_number o e said none = err_is e Text (said ∙ ap (λ (x : Option ℕ). ok_or x Text) none)
-
--- What agrees with the words of a line is read of it.
-pub reads : (line : List ℕ) (ws : List (List ℕ)) (r : Result Command Unread) → LineWords line ws → Agrees r (said_in ws) → ReadAs line r
-reads line ws (Ok c) w a = (ws, w, a)
-reads line ws (Err Text) w a = (ws, w, a)
-reads line ws (Err Memory) w a = tt
+  pub something_said : (o : Option N) (n : N) → Ok n ≡ ok_or o Text → o ≡ Some n
+  something_said None n said = cc
+  something_said (Some m) n said = cc

@@ -1,7 +1,7 @@
 -- What the lines of the script say.
 use Rattle.std.specs.Prelude.{◌≡◌, ℕ, ◌+◌, ◌^◌, Bool, cond, ◌&&◌, List, length, drop, Some, None, Ok, Err, vec_items, string_bytes, codes, Option, Result, ◌==◌, nat_le, nat_lt}
 use Rattle.listing.specs.declared.line.Kind.{Kind}
-use Rattle.script.specs.Numbers.{number_in, numbers_in}
+use Rattle.script.specs.Numbers.{number_in, numbers_by}
 use Rattle.script.specs.Words.{LineWords, word_at}
 use Rattle.script.specs.Names.{kind_named, bit_named, number_of_operation}
 use Rattle.script.specs.Verbs.{verb_of}
@@ -9,6 +9,7 @@ use Rattle.script.specs.declared.verb.Verb.{Verb}
 use Rattle.script.specs.declared.verb.Verb.TheVariants as verb
 use Rattle.script.specs.declared.unread.Unread.{Unread}
 use Rattle.script.specs.declared.unread.Unread.TheVariants.{Memory, Text}
+use Rattle.script.specs.declared.command.Stretch.{Stretch}
 use Rattle.script.specs.declared.command.Command.{Command}
 use Rattle.script.specs.declared.command.Command.TheVariants.{Blank, Storage, Cell, Sheet, Entry, Do, Load, Deposit, Protect, Examine, View}
 
@@ -36,9 +37,9 @@ told (Entry key number) = entry key number
 told (Do file) = perform (string_bytes file)
 told Load = load
 told (Deposit address values) = deposit address (vec_items values)
-told (Protect address bit count) = protect address bit count
-told (Examine address count) = examine address count
-told (View address count) = view address count
+told (Protect stretch bit) = protect stretch.address bit stretch.count
+told (Examine stretch) = examine stretch.address stretch.count
+told (View stretch) = view stretch.address stretch.count
 
 -- The code's answer agrees with what is said; nothing is known where there was no memory.
 abbrev pub Agrees : Result Command Unread → Option Said → Type 0
@@ -47,25 +48,21 @@ Agrees (Err Text) s = None ≡ s
 Agrees (Err Memory) s = Unit {0}
 
 -- What follows from a value; nothing where there is none.
-abbrev pub given : {V : Type 0} → Option V → (V → Option Said) → Option Said
+abbrev pub given : {V W : Type 0} → Option V → (V → Option W) → Option W
 given (Some v) f = f v
 given None f = None
 
--- What is said where a rule is kept.
-abbrev pub where_kept : Bool → Said → Option Said
-where_kept kept s = cond kept (Some s) None
+-- A value where a rule is kept, and else none.
+abbrev pub where_kept : {V : Type 0} → Bool → V → Option V
+where_kept kept v = cond kept (Some v) None
 
 -- What is said by a line of so many words, the verb among them.
-abbrev pub of_words : ℕ → List (List ℕ) → Option Said → Option Said
+abbrev pub of_words : {V : Type 0} → ℕ → List (List ℕ) → Option V → Option V
 of_words n ws s = cond (length ws == n) s None
 
 -- A stretch of places ends at address FFFFFFFF or below.
 abbrev pub fits : ℕ → ℕ → Bool
 fits address count = nat_le (address + count) 4294967296
-
--- A list of values has at least one, and its stretch fits.
-abbrev pub stretches : ℕ → List ℕ → Bool
-stretches address values = nat_lt 0 (length values) && fits address (length values)
 
 -- A hexadecimal address of 32 bits, and a decimal size or count.
 abbrev pub hex32 : List ℕ → Option ℕ
@@ -74,13 +71,22 @@ hex32 bs = number_in 16 (2 ^ 32) bs
 abbrev pub decimal32 : List ℕ → Option ℕ
 decimal32 bs = number_in 10 (2 ^ 32) bs
 
+-- The address that a list of so many values begins at: there is at least one, and their stretch fits.
+abbrev pub start_said : List ℕ → ℕ → Option ℕ
+start_said address count = given (hex32 address) (λ a. where_kept (nat_lt 0 count && fits a count) a)
+
+-- The stretch with an address and a count, if it fits.
+abbrev pub stretch_said : List ℕ → List ℕ → Option Stretch
+stretch_said address count =
+    given (hex32 address) (λ a. given (decimal32 count) (λ n. where_kept (fits a n) (record { address = a; count = n })))
+
 -- `storage KIND SIZE`
 abbrev pub storage_said : List ℕ → List ℕ → Option Said
 storage_said kind size = given (kind_named kind) (λ k. given (decimal32 size) (λ n. Some (storage k n)))
 
 -- `cell ADDRESS RAW ..`, with the raw cells read
 abbrev pub cell_said : List ℕ → List ℕ → Option Said
-cell_said address cells = given (hex32 address) (λ a. where_kept (stretches a cells) (cell a cells))
+cell_said address cells = given (start_said address (length cells)) (λ a. Some (cell a cells))
 
 -- `sheet HALFWORD ..`, with the halfwords read
 abbrev pub sheet_said : List ℕ → Option Said
@@ -93,37 +99,39 @@ entry_said key operation =
 
 -- `deposit ADDRESS VALUE ..`, with the values read
 abbrev pub deposit_said : List ℕ → List ℕ → Option Said
-deposit_said address values = given (hex32 address) (λ a. where_kept (stretches a values) (deposit a values))
+deposit_said address values = given (start_said address (length values)) (λ a. Some (deposit a values))
 
--- `protect ADDRESS BIT COUNT`
-abbrev pub protect_said : List ℕ → List ℕ → List ℕ → Option Said
-protect_said address bit count =
-    given (hex32 address) (λ a. given (bit_named bit) (λ b. given (decimal32 count) (λ n. where_kept (fits a n) (protect a b n))))
+-- The stretch in the words of a line: its address is word 1, and its count the word with a number, which is the last one.
+-- A count that is left out is 1.
+abbrev pub stretch_in : ℕ → List (List ℕ) → Option Stretch
+stretch_in last ws =
+    cond (length ws == last) (stretch_said (word_at ws 1) (codes "1"))
+    (of_words (last + 1) ws (stretch_said (word_at ws 1) (word_at ws last)))
 
--- `examine ADDRESS COUNT`
-abbrev pub examine_said : List ℕ → List ℕ → Option Said
-examine_said address count = given (hex32 address) (λ a. given (decimal32 count) (λ n. where_kept (fits a n) (examine a n)))
+-- `protect ADDRESS BIT COUNT`, with the stretch read
+abbrev pub protect_said : List ℕ → Stretch → Option Said
+protect_said bit s = given (bit_named bit) (λ b. Some (protect s.address b s.count))
 
--- `view ADDRESS COUNT`
-abbrev pub view_said : List ℕ → List ℕ → Option Said
-view_said address count = given (hex32 address) (λ a. given (decimal32 count) (λ n. where_kept (fits a n) (view a n)))
+-- `examine ADDRESS COUNT`, with the stretch read
+abbrev pub examine_said : Stretch → Option Said
+examine_said s = Some (examine s.address s.count)
 
--- What the words of a line say that begins with a verb. A count that is left out is 1.
+-- `view ADDRESS COUNT`, with the stretch read
+abbrev pub view_said : Stretch → Option Said
+view_said s = Some (view s.address s.count)
+
+-- What the words of a line say that begins with a verb.
 abbrev pub said_by : Verb → List (List ℕ) → Option Said
 said_by verb.Storage ws = of_words 3 ws (storage_said (word_at ws 1) (word_at ws 2))
-said_by verb.Cell ws = given (numbers_in 16 (2 ^ 32) (drop 2 ws)) (cell_said (word_at ws 1))
-said_by verb.Sheet ws = given (numbers_in 16 (2 ^ 16) (drop 1 ws)) sheet_said
+said_by verb.Cell ws = given (numbers_by (number_in 16 (2 ^ 32)) (drop 2 ws)) (cell_said (word_at ws 1))
+said_by verb.Sheet ws = given (numbers_by (number_in 16 (2 ^ 16)) (drop 1 ws)) sheet_said
 said_by verb.Entry ws = of_words 3 ws (entry_said (word_at ws 1) (word_at ws 2))
 said_by verb.Do ws = of_words 2 ws (Some (perform (word_at ws 1)))
 said_by verb.Load ws = of_words 1 ws (Some load)
-said_by verb.Deposit ws = given (numbers_in 16 (2 ^ 16) (drop 2 ws)) (deposit_said (word_at ws 1))
-said_by verb.Protect ws =
-    cond (length ws == 3) (protect_said (word_at ws 1) (word_at ws 2) (codes "1"))
-    (of_words 4 ws (protect_said (word_at ws 1) (word_at ws 2) (word_at ws 3)))
-said_by verb.Examine ws =
-    cond (length ws == 2) (examine_said (word_at ws 1) (codes "1")) (of_words 3 ws (examine_said (word_at ws 1) (word_at ws 2)))
-said_by verb.View ws =
-    cond (length ws == 2) (view_said (word_at ws 1) (codes "1")) (of_words 3 ws (view_said (word_at ws 1) (word_at ws 2)))
+said_by verb.Deposit ws = given (numbers_by (number_in 16 (2 ^ 16)) (drop 2 ws)) (deposit_said (word_at ws 1))
+said_by verb.Protect ws = given (stretch_in 3 ws) (protect_said (word_at ws 2))
+said_by verb.Examine ws = given (stretch_in 2 ws) examine_said
+said_by verb.View ws = given (stretch_in 2 ws) view_said
 
 -- What the words of a line say, or nothing where it cannot be read.
 abbrev pub said_in : List (List ℕ) → Option Said

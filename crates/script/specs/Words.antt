@@ -1,5 +1,5 @@
 -- A line, and the words of a text.
-use Rattle.std.specs.Prelude.{◌≡◌, ℕ, ◌<◌, ◌⊎◌, List, [], ◌∷◌, ◌++◌, length, slice_index_or}
+use Rattle.std.specs.Prelude.{◌≡◌, ℕ, ◌<◌, ◌⊎◌, List, [], ◌∷◌, ◌++◌, length, map, slice_index_or}
 use Rattle.std.specs.Borrow.{Bor}
 use Rattle.std.specs.Str.Iter.{LacksByte}
 use Rattle.std.specs.Str.{NoCharPasses, EmptyOrStartsWithPassing}
@@ -19,17 +19,16 @@ Firsts text [] rest = text ≡ rest
 Firsts text (w ∷ ws) rest = (after : List ℕ) × First text w after × Firsts after ws rest
 
 -- The words of a text are ws.
-abbrev pub Words : List ℕ → List (List ℕ) → Type 0
-Words text ws = (rest : List ℕ) × Firsts text ws rest × NoCharPasses is_not_whitespace rest
+abbrev pub TextWords : List ℕ → List (List ℕ) → Type 0
+TextWords text ws = (rest : List ℕ) × Firsts text ws rest × NoCharPasses is_not_whitespace rest
 
 -- The words of a line are ws: those before its comment.
 abbrev pub LineWords : List ℕ → List (List ℕ) → Type 0
-LineWords line ws = (body : List ℕ) × Uncommented line body × Words body ws
+LineWords line ws = (body : List ℕ) × Uncommented line body × TextWords body ws
 
 -- What each of some words holds.
 abbrev pub texts : List (Bor (List ℕ)) → List (List ℕ)
-texts [] = []
-texts (w ∷ ws) = w.now ∷ texts ws
+texts ws = map (λ w. w.now) ws
 
 -- The word with a number, counted from 0; no bytes where there is none.
 abbrev pub word_at : List (List ℕ) → ℕ → List ℕ

@@ -1,5 +1,26 @@
 // The commands of the script.
+ghost use Rattle.std.specs.Iterator.{AlwaysYields};
+ghost use Rattle.script.specs.Stretches.{addresses_of};
+
 use listing::line::Kind;
+use std::iter::Take;
+use std::ops::RangeInclusive;
+
+// A stretch of places: an address, and how many places there are from it on.
+#[derive(Clone, Copy, PartialEq, Eq, Debug)]
+pub struct Stretch {
+    pub address: u32,
+    pub count: u32,
+}
+
+impl Stretch {
+    // Its addresses in order, up to address FFFFFFFF.
+    pub fn addresses(self) -> Take<RangeInclusive<u32>>
+        ensures { AlwaysYields ⟦<Take<RangeInclusive<u32>> as Iterator>⟧.next_gives (λ x. x) result (addresses_of self) }
+    {
+        (self.address..=u32::MAX).take(self.count as usize)
+    }
+}
 
 // What one line says.
 #[derive(Drop)]
@@ -21,9 +42,9 @@ pub enum Command {
     // Deposit values, from an address on.
     Deposit { address: u32, values: Vec<u16> },
     // Set the protect bit of a stretch of places.
-    Protect { address: u32, bit: bool, count: u32 },
+    Protect { stretch: Stretch, bit: bool },
     // Read a stretch of places.
-    Examine { address: u32, count: u32 },
+    Examine(Stretch),
     // Show a stretch of places.
-    View { address: u32, count: u32 },
+    View(Stretch),
 }

@@ -2,7 +2,7 @@
 ghost use Rattle.std.specs.Prelude.{◌≡◌};
 ghost use Rattle.script.specs.Names.{operation_named, number_of_operation, kind_named, bit_named};
 
-use crate::number;
+use crate::number::number;
 use listing::line::Kind;
 use sheet::operation::Operation;
 
@@ -49,7 +49,7 @@ pub fn operation_number(word: &str) -> Option<u16>
 {
     match named(word) {
         Some(operation) => Some(operation.number()),
-        None => number::decimal_u16(word),
+        None => number(word, 10),
     }
 }
 
@@ -64,7 +64,7 @@ pub fn kind(word: &str) -> Option<Kind>
     }
 }
 
-// The protect bit that a word is, if it is one.
+// The protect bit that a word is, if it is one. It is the digit 0 or 1, while the library reads a `bool` as true or false.
 pub fn bit(word: &str) -> Option<bool>
     ensures { result ≡ bit_named word.now }
 {

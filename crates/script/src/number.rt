@@ -1,56 +1,53 @@
 // The numbers of the script: digits with no sign in front, as many as there are.
-ghost use Rattle.std.specs.Prelude.{◌≡◌, ◌+◌, ◌^◌, ◌==◌, nat_le, slice_index};
-ghost use Rattle.script.specs.Numbers.{number_in};
+ghost use Rattle.std.specs.Prelude.{◌≡◌, ℕ, ◌+◌, ◌^◌, ◌≤◌, nat_le};
+ghost use Rattle.std.specs.Str.Parse.{without_leading_plus};
+ghost use Rattle.script.specs.Numbers.{number_by};
 
-// Whether a plus sign stands in front, which the library takes, and the script does not.
-fn signed(word: &str) -> bool
-    ensures { result ≡ (slice_index word.now 0 == 43) }
-{
-    let bytes = word.as_bytes();
-    if bytes.is_empty() {
-        return false;
-    }
-    bytes[0] == b'+'
+// A type of numbers that the script writes.
+pub trait Numeral: Sized {
+    // Its values lie below this.
+    ghost limit: { ℕ };
+
+    // The number with a value.
+    ghost from_value: { ℕ → Self };
+
+    // What the library reads: a plus sign may stand in front.
+    fn read(word: &str, radix: u32) -> Option<Self>
+        requires lower_bound { 2 ≤ radix }
+        requires upper_bound { radix ≤ 36 }
+        ensures { result ≡ number_by from_value radix limit (without_leading_plus word.now) };
 }
 
-// A hexadecimal number of 16 bits.
-pub fn hex_u16(word: &str) -> Option<u16>
-    ensures { result ≡ number_in 16 (2 ^ 16) word.now }
-{
-    if signed(word) {
-        return None;
+impl Numeral for u16 {
+    ghost limit = { 2 ^ 16 };
+
+    ghost from_value = { λ n. n };
+
+    fn read(word: &str, radix: u32) -> Option<u16> {
+        u16::from_str_radix(word, radix).ok()
     }
-    u16::from_str_radix(word, 16).ok()
 }
 
-// A hexadecimal number of 32 bits.
-pub fn hex_u32(word: &str) -> Option<u32>
-    ensures { result ≡ number_in 16 (2 ^ 32) word.now }
-{
-    if signed(word) {
-        return None;
+impl Numeral for u32 {
+    ghost limit = { 2 ^ 32 };
+
+    ghost from_value = { λ n. n };
+
+    fn read(word: &str, radix: u32) -> Option<u32> {
+        u32::from_str_radix(word, radix).ok()
     }
-    u32::from_str_radix(word, 16).ok()
 }
 
-// A decimal number of 16 bits.
-pub fn decimal_u16(word: &str) -> Option<u16>
-    ensures { result ≡ number_in 10 (2 ^ 16) word.now }
+// The number that a word writes in a radix, if it writes one of the type.
+pub fn number<T: Numeral>(word: &str, radix: u32) -> Option<T>
+    requires lower_bound { 2 ≤ radix }
+    requires upper_bound { radix ≤ 36 }
+    ensures { result ≡ number_by T.from_value radix T.limit word.now }
 {
-    if signed(word) {
+    if word.starts_with('+') {
         return None;
     }
-    u16::from_str_radix(word, 10).ok()
-}
-
-// A decimal number of 32 bits.
-pub fn decimal_u32(word: &str) -> Option<u32>
-    ensures { result ≡ number_in 10 (2 ^ 32) word.now }
-{
-    if signed(word) {
-        return None;
-    }
-    u32::from_str_radix(word, 10).ok()
+    T::read(word, radix)
 }
 
 // Whether a stretch of places ends at address FFFFFFFF or below.

@@ -1,16 +1,42 @@
 // The commands, from the words after the verb.
-ghost use Rattle.script.specs.Commands.{Agrees, cell_said, deposit_said, entry_said, examine_said, protect_said, sheet_said, storage_said, view_said};
+ghost use Rattle.std.specs.Prelude.{◌≡◌, length};
+ghost use Rattle.std.specs.Option.{ok_or};
+ghost use Rattle.script.specs.Commands.{Agrees, cell_said, deposit_said, entry_said, sheet_said, start_said, storage_said, stretch_said};
 
-use crate::command::Command;
+use crate::command::{Command, Stretch};
+use crate::name;
+use crate::number::{fits, number};
 use crate::unread::Unread;
-use crate::{name, number};
+
+// The address that a list of so many values begins at: there is one or more, and their stretch fits.
+fn start(address: &str, count: usize) -> Result<u32, Unread>
+    ensures { result ≡ ok_or (start_said address.now count) Unread.Text }
+{
+    let address = number(address, 16).ok_or(Unread::Text)?;
+    if count == 0 || !fits(address, count) {
+        return Err(Unread::Text);
+    }
+    Ok(address)
+}
+
+// The stretch with an address and a count.
+pub fn stretch(address: &str, count: &str) -> Result<Stretch, Unread>
+    ensures { result ≡ ok_or (stretch_said address.now count.now) Unread.Text }
+{
+    let address = number(address, 16).ok_or(Unread::Text)?;
+    let count: u32 = number(count, 10).ok_or(Unread::Text)?;
+    if !fits(address, count as usize) {
+        return Err(Unread::Text);
+    }
+    Ok(Stretch { address, count })
+}
 
 // `storage KIND SIZE`.
 pub fn storage(kind: &str, size: &str) -> Result<Command, Unread>
     ensures { Agrees result (storage_said kind.now size.now) }
 {
     let kind = name::kind(kind).ok_or(Unread::Text)?;
-    let size = number::decimal_u32(size).ok_or(Unread::Text)?;
+    let size = number(size, 10).ok_or(Unread::Text)?;
     Ok(Command::Storage { kind, size })
 }
 
@@ -18,10 +44,7 @@ pub fn storage(kind: &str, size: &str) -> Result<Command, Unread>
 pub fn cell(address: &str, cells: Vec<u32>) -> Result<Command, Unread>
     ensures { Agrees result (cell_said address.now cells.items) }
 {
-    let address = number::hex_u32(address).ok_or(Unread::Text)?;
-    if cells.is_empty() || !number::fits(address, cells.len()) {
-        return Err(Unread::Text);
-    }
+    let address = start(address, cells.len())?;
     Ok(Command::Cell { address, cells })
 }
 
@@ -39,7 +62,7 @@ pub fn sheet(halfwords: Vec<u16>) -> Result<Command, Unread>
 pub fn entry(key: &str, operation: &str) -> Result<Command, Unread>
     ensures { Agrees result (entry_said key.now operation.now) }
 {
-    let key = number::hex_u16(key).ok_or(Unread::Text)?;
+    let key = number(key, 16).ok_or(Unread::Text)?;
     let number = name::operation_number(operation).ok_or(Unread::Text)?;
     Ok(Command::Entry { key, number })
 }
@@ -48,50 +71,6 @@ pub fn entry(key: &str, operation: &str) -> Result<Command, Unread>
 pub fn deposit(address: &str, values: Vec<u16>) -> Result<Command, Unread>
     ensures { Agrees result (deposit_said address.now values.items) }
 {
-    let address = number::hex_u32(address).ok_or(Unread::Text)?;
-    if values.is_empty() || !number::fits(address, values.len()) {
-        return Err(Unread::Text);
-    }
+    let address = start(address, values.len())?;
     Ok(Command::Deposit { address, values })
-}
-
-// `protect ADDRESS BIT COUNT`.
-pub fn protect(address: &str, bit: &str, count: &str) -> Result<Command, Unread>
-    ensures { Agrees result (protect_said address.now bit.now count.now) }
-{
-    let address = number::hex_u32(address).ok_or(Unread::Text)?;
-    let bit = name::bit(bit).ok_or(Unread::Text)?;
-    let count = number::decimal_u32(count).ok_or(Unread::Text)?;
-    if !number::fits(address, count as usize) {
-        return Err(Unread::Text);
-    }
-    Ok(Command::Protect {
-        address,
-        bit,
-        count,
-    })
-}
-
-// `examine ADDRESS COUNT`.
-pub fn examine(address: &str, count: &str) -> Result<Command, Unread>
-    ensures { Agrees result (examine_said address.now count.now) }
-{
-    let address = number::hex_u32(address).ok_or(Unread::Text)?;
-    let count = number::decimal_u32(count).ok_or(Unread::Text)?;
-    if !number::fits(address, count as usize) {
-        return Err(Unread::Text);
-    }
-    Ok(Command::Examine { address, count })
-}
-
-// `view ADDRESS COUNT`.
-pub fn view(address: &str, count: &str) -> Result<Command, Unread>
-    ensures { Agrees result (view_said address.now count.now) }
-{
-    let address = number::hex_u32(address).ok_or(Unread::Text)?;
-    let count = number::decimal_u32(count).ok_or(Unread::Text)?;
-    if !number::fits(address, count as usize) {
-        return Err(Unread::Text);
-    }
-    Ok(Command::View { address, count })
 }

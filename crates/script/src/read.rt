@@ -1,159 +1,142 @@
 // One line of the script, read into a command.
-ghost use Rattle.std.specs.Prelude.{◌^◌, drop};
-ghost use Rattle.script.specs.Commands.{Agrees, ReadAs, said_by, said_in};
-ghost use Rattle.script.specs.Read.{NumbersRead};
-ghost use Rattle.script.specs.Words.{texts};
+ghost use Rattle.std.specs.Prelude.{◌≡◌};
+ghost use Rattle.std.specs.Option.{ok_or};
+ghost use Rattle.script.specs.Commands.{Agrees, ReadAs, said_by, said_in, stretch_in};
+ghost use Rattle.script.specs.Read.{words_in};
 ghost use Rattle.script.specs.declared.verb.Verb.TheVariants as verb;
 
-use crate::command::Command;
+use crate::command::{Command, Stretch};
 use crate::unread::Unread;
 use crate::verb::Verb;
-use crate::words::{count, word, words_of};
-use crate::{number, parse};
+use crate::words::Words;
+use crate::{name, parse};
 use std::alloc::Global;
 
-// The halfwords that the words from a number on write.
-fn halfwords(heap: Global, words: &[&str], from: usize) -> Result<Vec<u16>, Unread>
-    ensures { NumbersRead (2 ^ 16) (drop from (texts words.now)) result }
-{
-    let mut all = Vec::new(heap);
-    for i in from..count(words) {
-        all.push(number::hex_u16(word(words, i)).ok_or(Unread::Text)?)?;
+impl Words<'_> {
+    // The stretch that begins at the address in word 1. Its count is the word with a number, which is the last one; a count
+    // that is left out is 1.
+    fn stretch(&self, last: usize) -> Result<Stretch, Unread>
+        ensures { result ≡ ok_or (stretch_in last (words_in self.now)) Unread.Text }
+    {
+        match self.count().checked_sub(last) {
+            Some(0) => parse::stretch(self.word(1), "1"),
+            Some(1) => parse::stretch(self.word(1), self.word(last)),
+            _ => Err(Unread::Text),
+        }
     }
-    Ok(all)
-}
 
-// The raw cells that they write.
-fn cells(heap: Global, words: &[&str], from: usize) -> Result<Vec<u32>, Unread>
-    ensures { NumbersRead (2 ^ 32) (drop from (texts words.now)) result }
-{
-    let mut all = Vec::new(heap);
-    for i in from..count(words) {
-        all.push(number::hex_u32(word(words, i)).ok_or(Unread::Text)?)?;
+    fn storage(&self) -> Result<Command, Unread>
+        ensures { Agrees result (said_by verb.Storage (words_in self.now)) }
+    {
+        match self.count() {
+            3 => parse::storage(self.word(1), self.word(2)),
+            _ => Err(Unread::Text),
+        }
     }
-    Ok(all)
-}
 
-fn storage(words: &[&str]) -> Result<Command, Unread>
-    ensures { Agrees result (said_by verb.Storage (texts words.now)) }
-{
-    match count(words) {
-        3 => parse::storage(word(words, 1), word(words, 2)),
-        _ => Err(Unread::Text),
+    fn cell(&self) -> Result<Command, Unread>
+        ensures { Agrees result (said_by verb.Cell (words_in self.now)) }
+    {
+        let cells = self.numbers(2)?;
+        parse::cell(self.word(1), cells)
     }
-}
 
-fn cell(heap: Global, words: &[&str]) -> Result<Command, Unread>
-    ensures { Agrees result (said_by verb.Cell (texts words.now)) }
-{
-    let cells = cells(heap, words, 2)?;
-    parse::cell(word(words, 1), cells)
-}
-
-fn sheet(heap: Global, words: &[&str]) -> Result<Command, Unread>
-    ensures { Agrees result (said_by verb.Sheet (texts words.now)) }
-{
-    let halfwords = halfwords(heap, words, 1)?;
-    parse::sheet(halfwords)
-}
-
-fn entry(words: &[&str]) -> Result<Command, Unread>
-    ensures { Agrees result (said_by verb.Entry (texts words.now)) }
-{
-    match count(words) {
-        3 => parse::entry(word(words, 1), word(words, 2)),
-        _ => Err(Unread::Text),
+    fn sheet(&self) -> Result<Command, Unread>
+        ensures { Agrees result (said_by verb.Sheet (words_in self.now)) }
+    {
+        let halfwords = self.numbers(1)?;
+        parse::sheet(halfwords)
     }
-}
 
-fn file(heap: Global, words: &[&str]) -> Result<Command, Unread>
-    ensures { Agrees result (said_by verb.Do (texts words.now)) }
-{
-    match count(words) {
-        2 => Ok(Command::Do(String::from_str(heap, word(words, 1))?)),
-        _ => Err(Unread::Text),
+    fn entry(&self) -> Result<Command, Unread>
+        ensures { Agrees result (said_by verb.Entry (words_in self.now)) }
+    {
+        match self.count() {
+            3 => parse::entry(self.word(1), self.word(2)),
+            _ => Err(Unread::Text),
+        }
     }
-}
 
-fn load(words: &[&str]) -> Result<Command, Unread>
-    ensures { Agrees result (said_by verb.Load (texts words.now)) }
-{
-    match count(words) {
-        1 => Ok(Command::Load),
-        _ => Err(Unread::Text),
+    fn file(&self) -> Result<Command, Unread>
+        ensures { Agrees result (said_by verb.Do (words_in self.now)) }
+    {
+        match self.count() {
+            2 => Ok(Command::Do(String::from_str(self.heap(), self.word(1))?)),
+            _ => Err(Unread::Text),
+        }
     }
-}
 
-fn deposit(heap: Global, words: &[&str]) -> Result<Command, Unread>
-    ensures { Agrees result (said_by verb.Deposit (texts words.now)) }
-{
-    let values = halfwords(heap, words, 2)?;
-    parse::deposit(word(words, 1), values)
-}
-
-fn protect(words: &[&str]) -> Result<Command, Unread>
-    ensures { Agrees result (said_by verb.Protect (texts words.now)) }
-{
-    match count(words) {
-        3 => parse::protect(word(words, 1), word(words, 2), "1"),
-        4 => parse::protect(word(words, 1), word(words, 2), word(words, 3)),
-        _ => Err(Unread::Text),
+    fn load(&self) -> Result<Command, Unread>
+        ensures { Agrees result (said_by verb.Load (words_in self.now)) }
+    {
+        match self.count() {
+            1 => Ok(Command::Load),
+            _ => Err(Unread::Text),
+        }
     }
-}
 
-fn examine(words: &[&str]) -> Result<Command, Unread>
-    ensures { Agrees result (said_by verb.Examine (texts words.now)) }
-{
-    match count(words) {
-        2 => parse::examine(word(words, 1), "1"),
-        3 => parse::examine(word(words, 1), word(words, 2)),
-        _ => Err(Unread::Text),
+    fn deposit(&self) -> Result<Command, Unread>
+        ensures { Agrees result (said_by verb.Deposit (words_in self.now)) }
+    {
+        let values = self.numbers(2)?;
+        parse::deposit(self.word(1), values)
     }
-}
 
-fn view(words: &[&str]) -> Result<Command, Unread>
-    ensures { Agrees result (said_by verb.View (texts words.now)) }
-{
-    match count(words) {
-        2 => parse::view(word(words, 1), "1"),
-        3 => parse::view(word(words, 1), word(words, 2)),
-        _ => Err(Unread::Text),
+    fn protect(&self) -> Result<Command, Unread>
+        ensures { Agrees result (said_by verb.Protect (words_in self.now)) }
+    {
+        let stretch = self.stretch(3)?;
+        let bit = name::bit(self.word(2)).ok_or(Unread::Text)?;
+        Ok(Command::Protect { stretch, bit })
     }
-}
 
-// The command of a line that begins with a verb.
-fn command(heap: Global, verb: Verb, words: &[&str]) -> Result<Command, Unread>
-    ensures { Agrees result (said_by verb (texts words.now)) }
-{
-    match verb {
-        Verb::Storage => storage(words),
-        Verb::Cell => cell(heap, words),
-        Verb::Sheet => sheet(heap, words),
-        Verb::Entry => entry(words),
-        Verb::Do => file(heap, words),
-        Verb::Load => load(words),
-        Verb::Deposit => deposit(heap, words),
-        Verb::Protect => protect(words),
-        Verb::Examine => examine(words),
-        Verb::View => view(words),
+    fn examine(&self) -> Result<Command, Unread>
+        ensures { Agrees result (said_by verb.Examine (words_in self.now)) }
+    {
+        Ok(Command::Examine(self.stretch(2)?))
     }
-}
 
-// The command that words say.
-fn said(heap: Global, words: &[&str]) -> Result<Command, Unread>
-    ensures { Agrees result (said_in (texts words.now)) }
-{
-    if count(words) == 0 {
-        return Ok(Command::Blank);
+    fn view(&self) -> Result<Command, Unread>
+        ensures { Agrees result (said_by verb.View (words_in self.now)) }
+    {
+        Ok(Command::View(self.stretch(2)?))
     }
-    let verb = Verb::named(word(words, 0)).ok_or(Unread::Text)?;
-    command(heap, verb, words)
+
+    // The command of a line that begins with a verb. The compiler sees that the match has each verb; a table of functions
+    // would be no plainer, and nothing would see that.
+    fn command(&self, verb: Verb) -> Result<Command, Unread>
+        ensures { Agrees result (said_by verb (words_in self.now)) }
+    {
+        match verb {
+            Verb::Storage => self.storage(),
+            Verb::Cell => self.cell(),
+            Verb::Sheet => self.sheet(),
+            Verb::Entry => self.entry(),
+            Verb::Do => self.file(),
+            Verb::Load => self.load(),
+            Verb::Deposit => self.deposit(),
+            Verb::Protect => self.protect(),
+            Verb::Examine => self.examine(),
+            Verb::View => self.view(),
+        }
+    }
+
+    // The command that the words say.
+    fn said(&self) -> Result<Command, Unread>
+        ensures { Agrees result (said_in (words_in self.now)) }
+    {
+        if self.count() == 0 {
+            return Ok(Command::Blank);
+        }
+        let verb = self.word(0).parse()?;
+        self.command(verb)
+    }
 }
 
 // What a line says.
 pub fn read_line(heap: Global, line: &str) -> Result<Command, Unread>
     ensures { ReadAs line.now result }
 {
-    let words = words_of(heap, line)?;
-    said(heap, &words)
+    let words = Words::of(heap, line)?;
+    words.said()
 }

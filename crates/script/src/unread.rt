@@ -1,10 +1,13 @@
 // Why a line was not read.
-ghost use Rattle.std.specs.Prelude.{◌≡◌};
+ghost use Rattle.std.specs.Prelude.{◌≡◌, Some};
+ghost use Rattle.script.specs.Unread.{unread_text};
 ghost use Rattle.script.specs.declared.unread.Unread.TheVariants as unread;
 
 use std::alloc::{AllocError, AllocFailed};
+use std::error::Error;
+use std::fmt;
 
-#[derive(Clone, Copy)]
+#[derive(Clone, Copy, PartialEq, Eq, Debug)]
 pub enum Unread {
     // There is no memory left.
     Memory,
@@ -12,6 +15,20 @@ pub enum Unread {
     Text,
 }
 
+impl fmt::Display for Unread {
+    ghost output = { λ x. Some (unread_text x) };
+
+    fn fmt<W: fmt::Write>(&self, f: &mut fmt::Formatter<W>) -> fmt::Result {
+        match *self {
+            Unread::Memory => f.write_str("there is no memory left"),
+            Unread::Text => f.write_str("the line cannot be read"),
+        }
+    }
+}
+
+impl Error for Unread {}
+
+// A `?` needs both of these: `collect` and `String::from_str` fail with the one, and `push` with the other.
 impl From<AllocError> for Unread {
     ghost from_gives = { λ _ r. r ≡ unread.Memory };
 
