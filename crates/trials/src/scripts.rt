@@ -1,5 +1,5 @@
 // Lines of the script that can and cannot be read.
-use script::command::Command;
+use script::command::{Command, Stretch};
 use script::read::read_line;
 use script::unread::Unread;
 use std::test::Fail;
@@ -50,67 +50,57 @@ const UNREAD: [&str; 41] = [
 ];
 
 #[test]
-fn unread(rt: HostRuntime) -> Result<(), Fail> {
+fn unread(rt: HostRuntime) {
     for line in UNREAD {
-        match read_line(rt.alloc(), line) {
-            Err(Unread::Text) => {}
-            _ => return Err(Fail::new(line)),
-        }
-    }
-    Ok(())
-}
-
-fn is_blank(read: Result<Command, Unread>) -> bool {
-    matches!(read, Ok(Command::Blank))
-}
-
-fn is_entry(read: Result<Command, Unread>, key: u16, number: u16) -> bool {
-    match read {
-        Ok(Command::Entry { key: k, number: n }) => k == key && n == number,
-        _ => false,
-    }
-}
-
-fn is_view(read: Result<Command, Unread>, address: u32, count: u32) -> bool {
-    match read {
-        Ok(
-            Command::View {
-                address: a,
-                count: n,
-            },
-        ) => a == address && n == count,
-        _ => false,
-    }
-}
-
-#[test]
-fn read(rt: HostRuntime) {
-    for line in ["", "   ", "# load", "  \t# deposit 80"] {
-        assert!(rt; is_blank(read_line(rt.alloc(), line)), "{}", line);
-    }
-    for (line, key, number) in [
-        ("entry 4ff ISPB", 0x4ff, 34),
-        ("entry FFFF 65535", 0xffff, 0xffff),
-        ("entry 0 0007# C", 0, 7),
-    ] {
-        assert!(rt;
-            is_entry(read_line(rt.alloc(), line), key, number),
+        assert_eq!(rt;
+            read_line(rt.alloc(), line).err(),
+            Some(Unread::Text),
             "{}",
             line
         );
     }
+}
+
+#[test]
+fn blanks(rt: HostRuntime) {
+    for line in ["", "   ", "# load", "  \t# deposit 80"] {
+        assert!(rt;
+            matches!(read_line(rt.alloc(), line), Ok(Command::Blank)),
+            "{}",
+            line
+        );
+    }
+}
+
+#[test]
+fn entries(rt: HostRuntime) -> Result<(), Fail> {
+    for (line, entry) in [
+        ("entry 4ff ISPB", (0x4ff, 34)),
+        ("entry FFFF 65535", (0xffff, 0xffff)),
+        ("entry 0 0007# C", (0, 7)),
+    ] {
+        let Ok(Command::Entry { key, number }) = read_line(rt.alloc(), line) else {
+            return Err(Fail::new(line));
+        };
+        assert_eq!(rt; (key, number), entry, "{}", line);
+    }
+    Ok(())
+}
+
+#[test]
+fn views(rt: HostRuntime) -> Result<(), Fail> {
     for (line, address, count) in [
         ("view FFFFFF00 256", 0xffff_ff00, 256),
         ("view FFFFFFFF 0", 0xffff_ffff, 0),
         ("\tview   000000000aB", 0xab, 1),
         ("view 0 4294967295 # all", 0, 0xffff_ffff),
     ] {
-        assert!(rt;
-            is_view(read_line(rt.alloc(), line), address, count),
-            "{}",
-            line
-        );
+        let Ok(Command::View(stretch)) = read_line(rt.alloc(), line) else {
+            return Err(Fail::new(line));
+        };
+        assert_eq!(rt; stretch, Stretch { address, count }, "{}", line);
     }
+    Ok(())
 }
 
 #[test]
@@ -119,8 +109,18 @@ fn values(rt: HostRuntime) -> Result<(), Fail> {
         return Err(Fail::new("deposit"));
     };
     assert_eq!(rt; address, 0x80);
-    assert_eq!(rt; values.get(0).copied(), Some(0xb0e2));
-    assert_eq!(rt; values.get(1).copied(), Some(5));
-    assert_eq!(rt; values.len(), 2);
+    assert_eq!(rt; values.as_slice(), [0xb0e2, 5].as_slice());
     Ok(())
+}
+
+#[test]
+fn addresses(rt: HostRuntime) {
+    for (address, count, last) in [
+        (0xab, 1, Some(0xab)),
+        (0xffff_fffd, 2, Some(0xffff_fffe)),
+        (0xffff_ff00, 256, Some(0xffff_ffff)),
+        (0xffff_ffff, 0, None),
+    ] {
+        assert_eq!(rt; Stretch { address, count }.addresses().last(), last);
+    }
 }
