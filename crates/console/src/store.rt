@@ -8,6 +8,7 @@ use storage::Storage;
 use storage::cells::CellStorage;
 use storage::packed::PackedStorage;
 
+// The kinds are two, and a `cell` line is for one of them alone: a boxed storage would not tell which it is.
 #[derive(Drop)]
 pub enum Store {
     Cells(CellStorage),

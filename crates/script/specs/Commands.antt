@@ -1,9 +1,10 @@
 -- What the lines of the script say.
 use Rattle.std.specs.Prelude.{◌≡◌, ℕ, ◌+◌, ◌^◌, Bool, cond, ◌&&◌, List, length, drop, Some, None, Ok, Err, vec_items, string_bytes, codes, Option, Result, ◌==◌, nat_le, nat_lt}
+use Rattle.listing.specs.Lines.{kind_named}
 use Rattle.listing.specs.declared.line.Kind.{Kind}
 use Rattle.script.specs.Numbers.{number_in, numbers_by}
 use Rattle.script.specs.Words.{LineWords, word_at}
-use Rattle.script.specs.Names.{kind_named, bit_named, number_of_operation}
+use Rattle.script.specs.Names.{bit_named, number_of_operation}
 use Rattle.script.specs.Verbs.{verb_of}
 use Rattle.script.specs.declared.verb.Verb.{Verb}
 use Rattle.script.specs.declared.verb.Verb.TheVariants as verb

@@ -1,6 +1,6 @@
 -- The verbs of the script.
 use Rattle.std.specs.Prelude.{ℕ, List, [], ◌∷◌, codes, Option}
-use Rattle.script.specs.Names.{named}
+use Rattle.sheet.specs.Names.{named}
 use Rattle.script.specs.declared.verb.Verb.{Verb}
 use Rattle.script.specs.declared.verb.Verb.TheVariants.{Storage, Cell, Sheet, Entry, Do, Load, Deposit, Protect, Examine, View}
 

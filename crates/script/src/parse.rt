@@ -35,7 +35,7 @@ pub fn stretch(address: &str, count: &str) -> Result<Stretch, Unread>
 pub fn storage(kind: &str, size: &str) -> Result<Command, Unread>
     ensures { Agrees result (storage_said kind.now size.now) }
 {
-    let kind = name::kind(kind).ok_or(Unread::Text)?;
+    let kind = kind.parse()?;
     let size = number(size, 10).ok_or(Unread::Text)?;
     Ok(Command::Storage { kind, size })
 }

@@ -3,6 +3,7 @@ ghost use Rattle.std.specs.Prelude.{◌≡◌, Some};
 ghost use Rattle.script.specs.Unread.{unread_text};
 ghost use Rattle.script.specs.declared.unread.Unread.TheVariants as unread;
 
+use listing::line::UnknownKind;
 use std::alloc::{AllocError, AllocFailed};
 use std::error::Error;
 use std::fmt;
@@ -27,6 +28,14 @@ impl fmt::Display for Unread {
 }
 
 impl Error for Unread {}
+
+impl From<UnknownKind> for Unread {
+    ghost from_gives = { λ _ r. r ≡ unread.Text };
+
+    fn from(_e: UnknownKind) -> Unread {
+        Unread::Text
+    }
+}
 
 // A `?` needs both of these: `collect` and `String::from_str` fail with the one, and `push` with the other.
 impl From<AllocError> for Unread {

@@ -6,59 +6,58 @@ use script::command::Command;
 use script::read::read_line;
 use std::fs;
 
-// Writes of a line that it cannot be read, if that is why it failed. The script itself has no file name.
-fn report<'a>(
+// Writes of a line that it cannot be read, if that is why it failed.
+fn report(
     performed: Result<Session, Failure>,
-    file: &'a str,
-    number: u64,
-    line: &'a str,
+    line: CannotRead,
     out: &mut String,
 ) -> Result<Session, Failure> {
     match performed {
-        Ok(session) => Ok(session),
         Err(Failure::Unread) => {
-            out.writeln(CannotRead { file, number, line })?;
+            out.writeln(line)?;
             Err(Failure::Reported)
         }
-        Err(other) => Err(other),
+        other => other,
     }
 }
 
 impl Session {
     // Performs the next line of the script, and writes what was performed.
     pub fn line(self, rt: &HostRuntime, line: &str, out: &mut String) -> Result<Session, Failure> {
-        let mut session = self;
-        let number = session.lines.saturating_add(1);
-        session.lines = number;
+        let number = self.lines.saturating_add(1);
+        let session = Session {
+            lines: number,
+            ..self
+        };
         let performed = session.try_line(rt, line, out);
-        report(performed, "", number, line, out)
+        let file = None;
+        report(performed, CannotRead { file, number, line }, out)
     }
 
     fn try_line(self, rt: &HostRuntime, line: &str, out: &mut String) -> Result<Session, Failure> {
         match read_line(rt.alloc(), line)? {
             Command::Do(file) => self.file(rt, file.as_str(), out),
-            command => self.perform(rt.alloc(), command, out),
+            command => self.perform(command, out),
         }
     }
 
     // Performs the lines of a file as if they stood in the script.
-    fn file(self, rt: &HostRuntime, file: &str, out: &mut String) -> Result<Session, Failure> {
-        let Ok(text) = fs::read_to_string(rt, file) else {
+    fn file(self, rt: &HostRuntime, name: &str, out: &mut String) -> Result<Session, Failure> {
+        let Ok(text) = fs::read_to_string(rt, name) else {
             return Err(Failure::Unread);
         };
         let mut session = self;
-        let mut number = 0u64;
-        for line in text.as_str().lines() {
-            number = number.saturating_add(1);
-            let performed = session.file_line(rt, line, out);
-            session = report(performed, file, number, line, out)?;
+        for (number, line) in (1..=u64::MAX).zip(text.as_str().lines()) {
+            let performed = session.file_line(line, out);
+            let file = Some(name);
+            session = report(performed, CannotRead { file, number, line }, out)?;
         }
         Ok(session)
     }
 
-    fn file_line(self, rt: &HostRuntime, line: &str, out: &mut String) -> Result<Session, Failure> {
-        let command = read_line(rt.alloc(), line)?;
-        self.perform(rt.alloc(), command, out)
+    fn file_line(self, line: &str, out: &mut String) -> Result<Session, Failure> {
+        let command = read_line(self.heap, line)?;
+        self.perform(command, out)
     }
 }
 
