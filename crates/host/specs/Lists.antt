@@ -1,5 +1,5 @@
 -- The list host: words that wait, and a list with room for words given.
-use Rattle.std.specs.Prelude.{ℕ, Bool, cond, List, [], ◌∷◌, ◌++◌, length, drop, vec_items, nat_lt, slice_index}
+use Rattle.std.specs.Prelude.{ℕ, Bool, cond, List, [], ◌∷◌, ◌++◌, length, drop, vec_items, vec_capacity, nat_lt, slice_index}
 use Rattle.host.specs.Devices.{Input, Machine, Output, Transfer, behaves, device_meaning}
 use Rattle.host.specs.Meaning.{Meaning, command_is_input}
 use Rattle.host.specs.declared.device.DeviceHost.{DeviceHost}
@@ -33,7 +33,7 @@ lists =
 -- The state of the device.
 abbrev pub lists_of : ListDevice → Lists
 lists_of d =
-    record { waiting = drop d.taken (vec_items d.words); written = vec_items d.written; capacity = d.capacity }
+    record { waiting = drop d.taken (vec_items d.words); written = vec_items d.written; capacity = vec_capacity d.written }
 
 -- What a list host means.
 abbrev pub list_meaning : DeviceHost ListDevice → Meaning

@@ -1,6 +1,6 @@
 // A device, and the host over it. A host of one's own needs only the device's own behaviour.
-ghost use Rattle.std.specs.Prelude.{◌≡◌, []};
-ghost use Rattle.host.specs.Devices.{Behaviour, Input, Output, after, device_meaning};
+ghost use Rattle.std.specs.Prelude.{◌≡◌};
+ghost use Rattle.host.specs.Devices.{Input, Machine, Output, behaves, device_meaning};
 
 mod state;
 
@@ -8,20 +8,27 @@ use crate::{Host, Seal, is_input};
 
 // What a device does. It is asked for a word, or given one, only for a command that it was ready for.
 pub trait Device {
-    ghost behaviour: { Self → Behaviour };
+    // The states that it may be in.
+    ghost states: { Type 0 };
+
+    // The state that it is in.
+    ghost state: { Self → states };
+
+    // What each state offers, and the state after a word has moved.
+    ghost machine: { Machine states };
 
     // Whether it would take a command.
     fn ready(&self, command: u32) -> bool
-        ensures { result ≡ (behaviour self.now []).takes command };
+        ensures { result ≡ (machine.offer (state self.now)).takes command };
 
     // Moves a word out, for an input command.
     fn input(&mut self, command: u32) -> u32
-        ensures answer { result ≡ (behaviour self.old []).word command }
-        ensures after { behaviour self.new ≡ after (behaviour self.old) (Input command) };
+        ensures answer { result ≡ (machine.offer (state self.old)).word command }
+        ensures after { state self.new ≡ machine.next (state self.old) (Input command) };
 
     // Moves a word in, for an output command.
     fn output(&mut self, command: u32, word: u32)
-        ensures after { behaviour self.new ≡ after (behaviour self.old) (Output command word) };
+        ensures after { state self.new ≡ machine.next (state self.old) (Output command word) };
 }
 
 // A host over a device: its open command and the latest word given with its command.
@@ -33,7 +40,7 @@ pub struct DeviceHost<D> {
 }
 
 impl<D: Device> Host for DeviceHost<D> {
-    ghost meaning = { λ h. device_meaning D.Device.behaviour h };
+    ghost meaning = { λ h. device_meaning (λ d. behaves D.machine (D.state d)) h };
 
     fn accept(&mut self, _seal: &Seal, command: u32) -> bool {
         let accepted = self.current.is_none() && self.device.ready(command);
@@ -45,21 +52,17 @@ impl<D: Device> Host for DeviceHost<D> {
 
     fn close_by_take(&mut self, _seal: &Seal) -> u32 {
         match self.current.take() {
-            Some(command) => if is_input(command) {
-                self.device.input(command)
-            } else {
-                0
-            },
-            None => 0,
+            Some(command) if is_input(command) => self.device.input(command),
+            _ => 0,
         }
     }
 
     fn close_by_give(&mut self, _seal: &Seal, word: u32) {
-        if let Some(command) = self.current.take() {
-            if !is_input(command) {
-                self.latest = Some((command, word));
-                self.device.output(command, word);
-            }
+        if let Some(command) = self.current.take()
+            && !is_input(command)
+        {
+            self.latest = Some((command, word));
+            self.device.output(command, word);
         }
     }
 

@@ -4,8 +4,8 @@ ghost use Rattle.host.specs.Exchanges.{closed_answer, closed_by, exchange_answer
 
 use crate::{Accepted, Host, is_input};
 
-// What became of an exchange.
-#[derive(Clone, Copy)]
+// What became of an exchange. There are three cases, each with its name: an option in an option would lose them.
+#[derive(Clone, Copy, PartialEq, Eq, Debug)]
 pub enum Exchanged {
     // The command was not accepted.
     NotAccepted,

@@ -1,19 +1,18 @@
 // The list host: words that wait, and a list with room for words given.
-ghost use Rattle.std.specs.Prelude.{◌≤◌, vec_len, vec_capacity};
+ghost use Rattle.std.specs.Prelude.{◌≤◌, vec_len};
 
 use crate::device::DeviceHost;
 
 mod calls;
 
-// The words up to `taken` have been taken. Room for all that can be written is there from the start.
+// The words up to `taken` have been taken. They stay beside their count, since the words that wait are shown as one slice,
+// and a queue would lend them in two. The list of words written is made with room for all that can be written.
 #[derive(Drop)]
 pub struct Lists {
     words: Vec<u32>,
     taken: usize,
     written: Vec<u32>,
-    capacity: usize,
     ghost within: { taken ≤ vec_len words },
-    ghost reserved: { capacity ≤ vec_capacity written },
 }
 
 pub type ListHost = DeviceHost<Lists>;

@@ -1,13 +1,12 @@
 // The register host: 32 fullwords.
-ghost use Rattle.std.specs.Prelude.{◌≡◌, [], None};
-ghost use Rattle.host.specs.Devices.{Input, Output, after, behaves};
+ghost use Rattle.std.specs.Prelude.{◌≡◌, ℕ, List, None};
 ghost use Rattle.host.specs.Laws.{Keeps};
-ghost use Rattle.host.specs.Registers.{register_meaning, register_of, registers, registers_after};
+ghost use Rattle.host.specs.Registers.{register_meaning, register_of, registers};
 
 use crate::device::{Device, DeviceHost};
 
 // Takes every command, and uses the word that its low five bits number.
-#[derive(Drop)]
+#[derive(PartialEq, Eq, Debug, Drop)]
 pub struct Registers {
     words: [u32; 32],
 }
@@ -21,20 +20,13 @@ fn number(command: u32) -> usize
     (command & 31) as usize
 }
 
-// An idle host over registers that hold these words.
-fn idle(words: [u32; 32]) -> RegisterHost
-    ensures { result ≡ record { current = None; latest = None; device = record { words = words } } }
-{
-    DeviceHost::new(Registers::new(words))
-}
-
 impl RegisterHost {
     // An idle host whose registers hold these words.
     pub fn with_words(words: [u32; 32]) -> RegisterHost
         ensures answer { result ≡ record { current = None; latest = None; device = record { words = words } } }
         ensures keeps { Keeps words (register_meaning result) }
     {
-        idle(words)
+        DeviceHost::new(Registers::new(words))
     }
 }
 
@@ -55,24 +47,21 @@ impl Registers {
 }
 
 impl Device for Registers {
-    ghost behaviour = { λ d. behaves registers d.words };
+    ghost states = { List ℕ };
+
+    ghost state = { λ d. d.words };
+
+    ghost machine = { registers };
 
     fn ready(&self, _command: u32) -> bool {
         true
     }
 
-    fn input(&mut self, command: u32) -> u32
-        ensures answer { result ≡ (behaves registers self.old.words []).word command }
-        ensures after { behaves registers self.new.words ≡ after (behaves registers self.old.words) (Input command) }
-        ensures state { self.new.words ≡ registers_after self.old.words (Input command) }
-    {
+    fn input(&mut self, command: u32) -> u32 {
         self.words[number(command)]
     }
 
-    fn output(&mut self, command: u32, word: u32)
-        ensures after { behaves registers self.new.words ≡ after (behaves registers self.old.words) (Output command word) }
-        ensures state { self.new.words ≡ registers_after self.old.words (Output command word) }
-    {
+    fn output(&mut self, command: u32, word: u32) {
         self.words[number(command)] = word;
     }
 }

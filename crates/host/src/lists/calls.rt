@@ -1,25 +1,16 @@
 // What the list host does.
 ghost use Rattle.std.specs.Prelude.{◌≡◌, [], IfOk, None};
-ghost use Rattle.host.specs.Devices.{Input, Output, after, behaves};
 ghost use Rattle.host.specs.Laws.{InOrder};
-ghost use Rattle.host.specs.Lists.{room_is_left, list_meaning, lists, lists_after, lists_of};
+ghost use Rattle.host.specs.Lists.{Lists as ListsState, room_is_left, list_meaning, lists, lists_of};
 
 use super::{ListHost, Lists};
 use crate::device::{Device, DeviceHost};
 use crate::is_input;
 use std::alloc::{AllocError, Global};
 
-// An idle host over lists with these words and this capacity.
-fn idle(heap: Global, words: Vec<u32>, capacity: usize) -> Result<ListHost, AllocError>
-    ensures idle { IfOk result (λ h. (h.current ≡ None) × (h.latest ≡ None)) }
-    ensures lists { IfOk result (λ h. lists_of h.device ≡ record { waiting = words.items; written = []; capacity = capacity }) }
-{
-    let lists = Lists::new(heap, words, capacity)?;
-    Ok(DeviceHost::new(lists))
-}
-
 impl ListHost {
     // An idle host with these words to give, and room for so many words given to it.
+    #[tactic(auto, using(crate::proofs::ListRuns::lists_in_order))]
     pub fn with_words(
         heap: Global,
         words: Vec<u32>,
@@ -29,8 +20,8 @@ impl ListHost {
         ensures lists { IfOk result (λ h. lists_of h.device ≡ record { waiting = words.items; written = []; capacity = capacity }) }
         ensures order { IfOk result (λ h. InOrder words.items capacity (list_meaning h)) }
     {
-        let host = idle(heap, words, capacity)?;
-        Ok(host)
+        let lists = Lists::new(heap, words, capacity)?;
+        Ok(DeviceHost::new(lists))
     }
 }
 
@@ -44,7 +35,6 @@ impl Lists {
             words,
             taken: 0,
             written,
-            capacity,
         })
     }
 
@@ -52,7 +42,7 @@ impl Lists {
     pub fn waiting(&self) -> &[u32]
         ensures { result.now ≡ (lists_of self.now).waiting }
     {
-        self.words.split_at(self.taken).1
+        &self.words[self.taken..]
     }
 
     // The words given so far, in order.
@@ -66,38 +56,34 @@ impl Lists {
     fn has_room(&self) -> bool
         ensures { result ≡ room_is_left (lists_of self.now) }
     {
-        self.written.len() < self.capacity
+        self.written.len() < self.written.capacity()
     }
 }
 
 impl Device for Lists {
-    ghost behaviour = { λ d. behaves lists (lists_of d) };
+    ghost states = { ListsState };
+
+    ghost state = { lists_of };
+
+    ghost machine = { lists };
 
     fn ready(&self, command: u32) -> bool {
         if is_input(command) {
-            self.taken < self.words.len()
+            !self.waiting().is_empty()
         } else {
             self.has_room()
         }
     }
 
-    fn input(&mut self, command: u32) -> u32
-        ensures answer { result ≡ (behaves lists (lists_of self.old) []).word command }
-        ensures after { behaves lists (lists_of self.new) ≡ after (behaves lists (lists_of self.old)) (Input command) }
-        ensures state { lists_of self.new ≡ lists_after (lists_of self.old) (Input command) }
-    {
-        let at = self.taken;
-        if at >= self.words.len() {
+    fn input(&mut self, _command: u32) -> u32 {
+        let Some(&word) = self.waiting().first() else {
             return 0;
-        }
-        self.taken = at + 1;
-        self.words[at]
+        };
+        self.taken += 1;
+        word
     }
 
-    fn output(&mut self, command: u32, word: u32)
-        ensures after { behaves lists (lists_of self.new) ≡ after (behaves lists (lists_of self.old)) (Output command word) }
-        ensures state { lists_of self.new ≡ lists_after (lists_of self.old) (Output command word) }
-    {
+    fn output(&mut self, _command: u32, word: u32) {
         if self.has_room() {
             self.written.push_reserved(word);
         }
