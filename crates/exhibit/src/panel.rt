@@ -1,6 +1,5 @@
 // A panel of switches and lamps at one address: a host that needs only its own behaviour.
 ghost use Rattle.std.specs.Prelude.{◌≡◌};
-ghost use Rattle.exhibit.specs.Panels.{panel_of};
 
 mod device;
 
@@ -8,7 +7,7 @@ use host::device::DeviceHost;
 
 // It takes the commands whose low eight bits are its address. An input command reads the switches, an output command
 // sets the lamps.
-#[derive(Drop)]
+#[derive(PartialEq, Eq, Debug, Drop)]
 pub struct Panel {
     address: u8,
     switches: u32,
@@ -20,7 +19,7 @@ pub type PanelHost = DeviceHost<Panel>;
 impl Panel {
     // A panel with its lamps out.
     pub fn new(address: u8, switches: u32) -> Panel
-        ensures { panel_of result ≡ record { address = address; switches = switches; lamps = 0 } }
+        ensures { result ≡ record { address = address; switches = switches; lamps = 0 } }
     {
         Panel {
             address,
@@ -31,7 +30,7 @@ impl Panel {
 
     // The lamps, as the last output command set them.
     pub fn lamps(&self) -> u32
-        ensures { result ≡ (panel_of self.now).lamps }
+        ensures { result ≡ self.now.lamps }
     {
         self.lamps
     }

@@ -22,12 +22,11 @@ module _ {S : Type 0} (M : Machine S) where
 
   -- One call.
   abbrev pub moved : At S → HostCall → At S
-  moved a (Command c) =
-      cond (is_idle a.current && (M.offer a.inner).takes c) (record { current = Some c; latest = a.latest; inner = a.inner }) a
-  moved a Take = record { current = None; latest = a.latest; inner = drawn a.current a.inner }
+  moved a (Command c) = cond (is_idle a.current && (M.offer a.inner).takes c) (record a { current = Some c }) a
+  moved a Take = record a { current = None; inner = drawn a.current a.inner }
   moved a (Give w) =
       record { current = None; latest = latest_for a.current w a.latest; inner = filled a.current w a.inner }
-  moved a Clear = record { current = None; latest = a.latest; inner = a.inner }
+  moved a Clear = record a { current = None }
 
   abbrev pub means : At S → Meaning
   means a = host_of (record { current = a.current; latest = a.latest; behaviour = behaves M a.inner })

@@ -49,12 +49,11 @@ latest_for (Some c) w old = cond (command_is_input c) old (Some (c, w))
 
 -- A host over a device after a call.
 abbrev pub next : Attached → HostCall → Attached
-next a (Command c) =
-    cond (is_idle a.current && (a.behaviour []).takes c) (record { current = Some c; latest = a.latest; behaviour = a.behaviour }) a
-next a Take = record { current = None; latest = a.latest; behaviour = input_for a.current a.behaviour }
+next a (Command c) = cond (is_idle a.current && (a.behaviour []).takes c) (record a { current = Some c }) a
+next a Take = record a { current = None; behaviour = input_for a.current a.behaviour }
 next a (Give w) =
     record { current = None; latest = latest_for a.current w a.latest; behaviour = output_for a.current w a.behaviour }
-next a Clear = record { current = None; latest = a.latest; behaviour = a.behaviour }
+next a Clear = record a { current = None }
 
 -- And after a list of calls.
 abbrev pub follow : Attached → List HostCall → Attached

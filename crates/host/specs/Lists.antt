@@ -21,10 +21,8 @@ lists_take s c = cond (command_is_input c) (nat_lt 0 (length s.waiting)) (room_i
 
 -- A word moved out is the first that waits, and waits no longer; a word moved in is put behind those written before.
 abbrev pub lists_after : Lists → Transfer → Lists
-lists_after s (Input c) =
-    record { waiting = drop 1 s.waiting; written = s.written; capacity = s.capacity }
-lists_after s (Output c w) =
-    record { waiting = s.waiting; written = cond (room_is_left s) (s.written ++ (w ∷ [])) s.written; capacity = s.capacity }
+lists_after s (Input c) = record s { waiting = drop 1 s.waiting }
+lists_after s (Output c w) = record s { written = cond (room_is_left s) (s.written ++ (w ∷ [])) s.written }
 
 abbrev pub lists : Machine Lists
 lists =

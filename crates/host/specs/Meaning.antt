@@ -1,5 +1,5 @@
 -- What a host means, and what each call of it answers and leaves.
-use Rattle.std.specs.Prelude.{ℕ, Bool, true, false, cond, not, ◌&&◌, List, [], ◌∷◌, Some, None, Option}
+use Rattle.std.specs.Prelude.{◌≡◌, ℕ, Bool, true, false, cond, not, ◌&&◌, List, [], ◌∷◌, Some, None, Option}
 use Rattle.word.specs.Bits.{bit_of}
 
 -- The calls of a host.
@@ -48,17 +48,15 @@ accepts m c = is_idle m.current && (m.offers []).takes c
 
 -- A command that is accepted opens the host; else nothing changes.
 abbrev pub commanded : Meaning → ℕ → Meaning
-commanded m c =
-    cond (accepts m c) (record { current = Some c; latest = m.latest; offers = later m (Command c) }) m
+commanded m c = cond (accepts m c) (record m { current = Some c; offers = later m (Command c) }) m
 
 -- Clear leaves the host idle, and moves no word.
 abbrev pub cleared : Meaning → Meaning
-cleared m = record { current = None; latest = m.latest; offers = later m Clear }
+cleared m = record m { current = None; offers = later m Clear }
 
 -- Take on input leaves the host idle and keeps the latest word; else it acts as clear.
 abbrev pub taken : Meaning → Meaning
-taken m =
-    cond (on_input m.current) (record { current = None; latest = m.latest; offers = later m Take }) (cleared m)
+taken m = cond (on_input m.current) (record m { current = None; offers = later m Take }) (cleared m)
 
 -- Take on input answers the word that the host would give to the open command; else 0.
 abbrev pub word_for : Option ℕ → (ℕ → ℕ) → ℕ
@@ -78,3 +76,24 @@ abbrev pub given : Meaning → ℕ → Meaning
 given m w =
     cond (on_output m.current) (record { current = None; latest = with_command m.current w; offers = later m (Give w) })
     (cleared m)
+
+-- What each call makes of a host that means m: it answers r, and the host means n afterwards. What m held at this call followed
+-- by a list is on offer after that list, also where the command is refused. At a command the words on offer stay.
+pub record Commands (m : Meaning) (c : ℕ) (r : Bool) (n : Meaning) : Type 0 where
+  pub answer : r ≡ accepts m c
+  pub after : n ≡ commanded m c
+  pub later : n.offers ≡ later m (Command c)
+  pub words : (n.offers []).word ≡ (m.offers []).word
+
+pub record Takes (m : Meaning) (r : ℕ) (n : Meaning) : Type 0 where
+  pub answer : r ≡ word_taken m
+  pub after : n ≡ taken m
+  pub later : n.offers ≡ later m Take
+
+pub record Gives (m : Meaning) (w : ℕ) (n : Meaning) : Type 0 where
+  pub after : n ≡ given m w
+  pub later : n.offers ≡ later m (Give w)
+
+pub record Clears (m n : Meaning) : Type 0 where
+  pub after : n ≡ cleared m
+  pub later : n.offers ≡ later m Clear

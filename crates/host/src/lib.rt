@@ -7,8 +7,8 @@ pub mod exchange;
 pub mod lists;
 pub mod registers;
 
-ghost use Rattle.std.specs.Prelude.{◌≡◌, [], is_some};
-ghost use Rattle.host.specs.Meaning.{Clear, Command, Give, Meaning, Take, accepts, cleared, commanded, given, command_is_input, later, taken, word_taken};
+ghost use Rattle.std.specs.Prelude.{◌≡◌, is_some};
+ghost use Rattle.host.specs.Meaning.{Clears, Commands, Gives, Meaning, Takes, command_is_input};
 
 // An accepted command that is still open. It cannot be copied or let go: take, give or clear ends it.
 pub struct Accepted {
@@ -27,46 +27,31 @@ pub trait Host {
 
     // Opens a command, if the host is idle and would take it.
     fn accept(&mut self, seal: &Seal, command: u32) -> bool
-        ensures answer { result ≡ accepts (meaning self.old) command }
-        ensures after { meaning self.new ≡ commanded (meaning self.old) command }
-        ensures later { (meaning self.new).offers ≡ later (meaning self.old) (Command command) }
-        ensures words { ((meaning self.new).offers []).word ≡ ((meaning self.old).offers []).word };
+        ensures { Commands (meaning self.old) command result (meaning self.new) };
 
     // Closes the open command, and answers its word if it is for input.
     fn close_by_take(&mut self, seal: &Seal) -> u32
-        ensures answer { result ≡ word_taken (meaning self.old) }
-        ensures after { meaning self.new ≡ taken (meaning self.old) }
-        ensures later { (meaning self.new).offers ≡ later (meaning self.old) Take };
+        ensures { Takes (meaning self.old) result (meaning self.new) };
 
     // Closes the open command, and keeps the word if it is for output.
     fn close_by_give(&mut self, seal: &Seal, word: u32)
-        ensures after { meaning self.new ≡ given (meaning self.old) word }
-        ensures later { (meaning self.new).offers ≡ later (meaning self.old) (Give word) };
+        ensures { Gives (meaning self.old) word (meaning self.new) };
 
     // Closes the open command, and moves no word.
     fn close_by_clear(&mut self, seal: &Seal)
-        ensures after { meaning self.new ≡ cleared (meaning self.old) }
-        ensures later { (meaning self.new).offers ≡ later (meaning self.old) Clear };
+        ensures { Clears (meaning self.old) (meaning self.new) };
 
     // Sends a command. A host that is open, or would not take it, answers none and does not change.
     fn command(&mut self, command: u32) -> Option<Accepted>
-        ensures answer { is_some result ≡ accepts (meaning self.old) command }
-        ensures after { meaning self.new ≡ commanded (meaning self.old) command }
-        ensures later { (meaning self.new).offers ≡ later (meaning self.old) (Command command) }
-        ensures words { ((meaning self.new).offers []).word ≡ ((meaning self.old).offers []).word }
+        ensures { Commands (meaning self.old) command (is_some result) (meaning self.new) }
     {
-        if self.accept(&Seal { sealed: () }, command) {
-            Some(Accepted { sealed: () })
-        } else {
-            None
-        }
+        let accepted = self.accept(&Seal { sealed: () }, command);
+        accepted.then(|| Accepted { sealed: () })
     }
 
     // Takes the word of an input command. On an output command or none it acts as clear, and answers 0.
     fn take(&mut self, token: Accepted) -> u32
-        ensures answer { result ≡ word_taken (meaning self.old) }
-        ensures after { meaning self.new ≡ taken (meaning self.old) }
-        ensures later { (meaning self.new).offers ≡ later (meaning self.old) Take }
+        ensures { Takes (meaning self.old) result (meaning self.new) }
     {
         let Accepted { sealed: () } = token;
         self.close_by_take(&Seal { sealed: () })
@@ -74,8 +59,7 @@ pub trait Host {
 
     // Gives a word to an output command. On an input command or none it acts as clear.
     fn give(&mut self, token: Accepted, word: u32)
-        ensures after { meaning self.new ≡ given (meaning self.old) word }
-        ensures later { (meaning self.new).offers ≡ later (meaning self.old) (Give word) }
+        ensures { Gives (meaning self.old) word (meaning self.new) }
     {
         let Accepted { sealed: () } = token;
         self.close_by_give(&Seal { sealed: () }, word);
@@ -83,8 +67,7 @@ pub trait Host {
 
     // Ends a command without a word.
     fn clear(&mut self, token: Accepted)
-        ensures after { meaning self.new ≡ cleared (meaning self.old) }
-        ensures later { (meaning self.new).offers ≡ later (meaning self.old) Clear }
+        ensures { Clears (meaning self.old) (meaning self.new) }
     {
         let Accepted { sealed: () } = token;
         self.close_by_clear(&Seal { sealed: () });

@@ -3,53 +3,35 @@ use exhibit::counted::Counted;
 use exhibit::lent::{LentStorage, Slot};
 use exhibit::panel::Panel;
 use host::device::DeviceHost;
-use host::exchange::{Exchanged, exchange};
+use host::exchange::Exchanged::{Given, NotAccepted, Taken};
+use host::exchange::exchange;
 use host::lists::ListHost;
 use host::registers::RegisterHost;
 use host::{Accepted, Host};
 use operator::stopped::Stopped;
-use std::process::Abort;
 use std::test::Fail;
 
 const INPUT: u32 = 0x8000_0000;
 
+// The word that an exchange brings along where it is for input.
+const UNUSED: u32 = 0xdead_beef;
+
 fn accepted<H: Host>(host: &mut H, command: u32) -> Result<Accepted, Fail> {
-    match host.command(command) {
-        Some(token) => Ok(token),
-        None => Err(Fail::new("not accepted")),
-    }
-}
-
-fn takes<H: Host>(rt: &impl Abort, host: &mut H, command: u32, word: u32) -> Result<(), Fail> {
-    match exchange(host, command, 0xdead_beef) {
-        Exchanged::Taken(taken) => {
-            assert_eq!(rt; taken, word);
-            Ok(())
-        },
-        _ => Err(Fail::new("no word was taken")),
-    }
-}
-
-fn gives<H: Host>(rt: &impl Abort, host: &mut H, command: u32, word: u32) {
-    assert!(rt; matches!(exchange(host, command, word), Exchanged::Given));
-}
-
-fn refuses<H: Host>(rt: &impl Abort, host: &mut H, command: u32) -> Result<(), Fail> {
-    assert!(rt; matches!(exchange(host, command, 1), Exchanged::NotAccepted));
-    Ok(())
+    host.command(command)
+        .ok_or_else(|| Fail::new("not accepted"))
 }
 
 // The low five bits number the register; all other bits of a command but bit 0 are ignored.
 #[test]
 fn registers(rt: HostRuntime) -> Result<(), Fail> {
     let mut host = RegisterHost::with_words([9; 32]);
-    takes(&rt, &mut host, INPUT + 31, 9)?;
-    gives(&rt, &mut host, 5, 0x1234);
-    takes(&rt, &mut host, INPUT + 5, 0x1234)?;
-    takes(&rt, &mut host, 0xffff_ffe5, 0x1234)?;
-    takes(&rt, &mut host, INPUT + 4, 9)?;
-    gives(&rt, &mut host, 0x7fff_ffe5, 0x5678);
-    takes(&rt, &mut host, INPUT + 5, 0x5678)?;
+    assert_eq!(rt; exchange(&mut host, INPUT + 31, UNUSED), Taken(9));
+    assert_eq!(rt; exchange(&mut host, 5, 0x1234), Given);
+    assert_eq!(rt; exchange(&mut host, INPUT + 5, UNUSED), Taken(0x1234));
+    assert_eq!(rt; exchange(&mut host, 0xffff_ffe5, UNUSED), Taken(0x1234));
+    assert_eq!(rt; exchange(&mut host, INPUT + 4, UNUSED), Taken(9));
+    assert_eq!(rt; exchange(&mut host, 0x7fff_ffe5, 0x5678), Given);
+    assert_eq!(rt; exchange(&mut host, INPUT + 5, UNUSED), Taken(0x5678));
     assert_eq!(rt; host.latest(), Some((0x7fff_ffe5, 0x5678)));
     assert_eq!(rt; host.current(), None);
     assert_eq!(rt; host.device().words()[5], 0x5678);
@@ -67,12 +49,13 @@ fn open(rt: HostRuntime) -> Result<(), Fail> {
     let still = host.current();
     let word = host.take(token);
     assert_eq!(rt; current, Some(INPUT + 3));
-    assert!(rt; matches!(refused, Exchanged::NotAccepted));
+    assert_eq!(rt; refused, NotAccepted);
     assert_eq!(rt; still, Some(INPUT + 3));
     assert_eq!(rt; word, 7);
     assert_eq!(rt; host.current(), None);
     assert_eq!(rt; host.latest(), None);
-    takes(&rt, &mut host, INPUT + 4, 7)
+    assert_eq!(rt; exchange(&mut host, INPUT + 4, UNUSED), Taken(7));
+    Ok(())
 }
 
 // A take on output and a give on input act as clear, and so does each on an idle host.
@@ -90,8 +73,9 @@ fn wrong_side(rt: HostRuntime) -> Result<(), Fail> {
     assert_eq!(rt; list.latest(), None);
     let token = accepted(&mut registers, INPUT)?;
     assert_eq!(rt; list.take(token), 0, "take on an idle host");
-    assert!(rt;
-        matches!(exchange(&mut registers, 0, 1), Exchanged::NotAccepted),
+    assert_eq!(rt;
+        exchange(&mut registers, 0, 1),
+        NotAccepted,
         "its token went to another host"
     );
     let token = accepted(&mut list, INPUT)?;
@@ -104,8 +88,8 @@ fn wrong_side(rt: HostRuntime) -> Result<(), Fail> {
     idle.give(token, 5);
     assert_eq!(rt; idle.latest(), None, "give on an idle host");
     assert_eq!(rt; idle.device().words()[0], 1);
-    assert!(rt; list.device().waiting() == [3, 4].as_slice());
-    assert!(rt; list.device().written() == [].as_slice());
+    assert_eq!(rt; list.device().waiting(), [3, 4].as_slice());
+    assert_eq!(rt; list.device().written(), [].as_slice());
     Ok(())
 }
 
@@ -113,29 +97,30 @@ fn wrong_side(rt: HostRuntime) -> Result<(), Fail> {
 fn lists(rt: HostRuntime) -> Result<(), Fail> {
     let words = vec![in rt.alloc(); 3u32, 4, 5]?;
     let mut host = ListHost::with_words(rt.alloc(), words, 2)?;
-    takes(&rt, &mut host, INPUT, 3)?;
-    gives(&rt, &mut host, 1, 8);
-    takes(&rt, &mut host, 0xffff_ffff, 4)?;
-    assert!(rt; host.device().waiting() == [5].as_slice());
-    takes(&rt, &mut host, INPUT, 5)?;
-    refuses(&rt, &mut host, INPUT)?;
-    gives(&rt, &mut host, 0x7fff_ffff, 9);
-    refuses(&rt, &mut host, 0)?;
-    refuses(&rt, &mut host, INPUT)?;
-    assert!(rt; host.device().written() == [8, 9].as_slice());
+    assert_eq!(rt; exchange(&mut host, INPUT, UNUSED), Taken(3));
+    assert_eq!(rt; exchange(&mut host, 1, 8), Given);
+    assert_eq!(rt; exchange(&mut host, 0xffff_ffff, UNUSED), Taken(4));
+    assert_eq!(rt; host.device().waiting(), [5].as_slice());
+    assert_eq!(rt; exchange(&mut host, INPUT, UNUSED), Taken(5));
+    assert_eq!(rt; exchange(&mut host, INPUT, 1), NotAccepted);
+    assert_eq!(rt; exchange(&mut host, 0x7fff_ffff, 9), Given);
+    assert_eq!(rt; exchange(&mut host, 0, 1), NotAccepted);
+    assert_eq!(rt; exchange(&mut host, INPUT, 1), NotAccepted);
+    assert_eq!(rt; host.device().written(), [8, 9].as_slice());
     assert_eq!(rt; host.latest(), Some((0x7fff_ffff, 9)));
     let mut none = ListHost::with_words(rt.alloc(), Vec::new(rt.alloc()), 0)?;
-    refuses(&rt, &mut none, INPUT)?;
-    refuses(&rt, &mut none, 0)
+    assert_eq!(rt; exchange(&mut none, INPUT, 1), NotAccepted);
+    assert_eq!(rt; exchange(&mut none, 0, 1), NotAccepted);
+    Ok(())
 }
 
 // A panel at address 7, with its traffic counted, and a storage over lent slots.
 #[test]
 fn exhibits(rt: HostRuntime) -> Result<(), Fail> {
     let mut host = Counted::new(DeviceHost::new(Panel::new(7, 0xcafe)));
-    takes(&rt, &mut host, 0x8000_0107, 0xcafe)?;
-    gives(&rt, &mut host, 0x0000_0007, 0xff);
-    refuses(&rt, &mut host, 0x8000_0008)?;
+    assert_eq!(rt; exchange(&mut host, 0x8000_0107, UNUSED), Taken(0xcafe));
+    assert_eq!(rt; exchange(&mut host, 0x0000_0007, 0xff), Given);
+    assert_eq!(rt; exchange(&mut host, 0x8000_0008, 1), NotAccepted);
     assert_eq!(rt; host.accepted(), 2);
     let mut slots = [Slot {
         value: 0x1234,

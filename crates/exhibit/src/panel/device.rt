@@ -1,30 +1,26 @@
 // What the panel does.
-ghost use Rattle.std.specs.Prelude.{◌≡◌, []};
-ghost use Rattle.exhibit.specs.Panels.{panel, panel_after, panel_of};
-ghost use Rattle.host.specs.Devices.{Input, Output, after, behaves};
+ghost use Rattle.exhibit.specs.Panels.{panel};
+ghost use Rattle.exhibit.specs.declared.panel.Panel.{Panel};
 
 use super::Panel;
 use host::device::Device;
 
 impl Device for Panel {
-    ghost behaviour = { λ d. behaves panel (panel_of d) };
+    ghost states = { Panel };
+
+    ghost state = { λ d. d };
+
+    ghost machine = { panel };
 
     fn ready(&self, command: u32) -> bool {
         command % 256 == u32::from(self.address)
     }
 
-    fn input(&mut self, command: u32) -> u32
-        ensures answer { result ≡ (behaves panel (panel_of self.old) []).word command }
-        ensures after { behaves panel (panel_of self.new) ≡ after (behaves panel (panel_of self.old)) (Input command) }
-        ensures state { panel_of self.new ≡ panel_after (panel_of self.old) (Input command) }
-    {
+    fn input(&mut self, _command: u32) -> u32 {
         self.switches
     }
 
-    fn output(&mut self, command: u32, word: u32)
-        ensures after { behaves panel (panel_of self.new) ≡ after (behaves panel (panel_of self.old)) (Output command word) }
-        ensures state { panel_of self.new ≡ panel_after (panel_of self.old) (Output command word) }
-    {
+    fn output(&mut self, _command: u32, word: u32) {
         self.lamps = word;
     }
 }
