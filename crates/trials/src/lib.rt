@@ -5,6 +5,8 @@
 #[cfg(test)]
 mod operators;
 #[cfg(test)]
+mod refusals;
+#[cfg(test)]
 mod scripts;
 #[cfg(test)]
 mod sheets;
