@@ -10,11 +10,11 @@ use std::fmt;
 
 // A call that serves and answers no value.
 #[derive(Clone, Copy, PartialEq, Eq, Debug)]
-pub(crate) struct Done;
+pub struct Done;
 
 // What a call served, or its refusal.
 #[derive(Clone, Copy)]
-pub(crate) struct Answer<T>(Result<T, Refusal>);
+pub struct Answer<T>(pub Result<T, Refusal>);
 
 // The answer of a call that serves without a value.
 pub(crate) fn serving(answer: Result<(), Refusal>) -> Answer<Done>
