@@ -29,6 +29,7 @@ pub struct State {
     low: RegisterSet,
     high: RegisterSet,
     pending: Pending,
+    // The entries alone: definitions build states, and the types that a caller holds have the invariants.
     table: [Option<Operation>; 1280],
 }
 

@@ -1,5 +1,5 @@
 // One line of the script, read into a command.
-ghost use Rattle.std.specs.Prelude.{◌≡◌};
+ghost use Rattle.std.specs.Prelude.{◌≡◌, ◌==◌, length, if◌then◌else◌, Ok, Err};
 ghost use Rattle.std.specs.Option.{ok_or};
 ghost use Rattle.script.specs.Commands.{Agrees, ReadAs, said_by, said_in, stretch_in};
 ghost use Rattle.script.specs.Read.{words_in};
@@ -13,6 +13,17 @@ use crate::{name, parse};
 use std::alloc::Global;
 
 impl Words<'_> {
+    // There are so many words, the verb among them.
+    fn exactly(&self, count: usize) -> Result<(), Unread>
+        ensures { result ≡ (if length (words_in self.now) == count then Ok tt else Err Unread.Text) }
+    {
+        if self.count() == count {
+            Ok(())
+        } else {
+            Err(Unread::Text)
+        }
+    }
+
     // The stretch that begins at the address in word 1. Its count is the word with a number, which is the last one; a count
     // that is left out is 1.
     fn stretch(&self, last: usize) -> Result<Stretch, Unread>
@@ -28,10 +39,8 @@ impl Words<'_> {
     fn storage(&self) -> Result<Command, Unread>
         ensures { Agrees result (said_by verb.Storage (words_in self.now)) }
     {
-        match self.count() {
-            3 => parse::storage(self.word(1), self.word(2)),
-            _ => Err(Unread::Text),
-        }
+        self.exactly(3)?;
+        parse::storage(self.word(1), self.word(2))
     }
 
     fn cell(&self) -> Result<Command, Unread>
@@ -51,28 +60,22 @@ impl Words<'_> {
     fn entry(&self) -> Result<Command, Unread>
         ensures { Agrees result (said_by verb.Entry (words_in self.now)) }
     {
-        match self.count() {
-            3 => parse::entry(self.word(1), self.word(2)),
-            _ => Err(Unread::Text),
-        }
+        self.exactly(3)?;
+        parse::entry(self.word(1), self.word(2))
     }
 
     fn file(&self) -> Result<Command, Unread>
         ensures { Agrees result (said_by verb.Do (words_in self.now)) }
     {
-        match self.count() {
-            2 => Ok(Command::Do(String::from_str(self.heap(), self.word(1))?)),
-            _ => Err(Unread::Text),
-        }
+        self.exactly(2)?;
+        Ok(Command::Do(String::from_str(self.heap(), self.word(1))?))
     }
 
     fn load(&self) -> Result<Command, Unread>
         ensures { Agrees result (said_by verb.Load (words_in self.now)) }
     {
-        match self.count() {
-            1 => Ok(Command::Load),
-            _ => Err(Unread::Text),
-        }
+        self.exactly(1)?;
+        Ok(Command::Load)
     }
 
     fn deposit(&self) -> Result<Command, Unread>
