@@ -3,7 +3,7 @@ use script::unread::Unread;
 use std::alloc::{AllocError, AllocFailed};
 use std::{fmt, io};
 
-#[derive(Drop)]
+#[derive(Debug, Drop)]
 pub enum Failure {
     // There is no memory left.
     Memory,
@@ -15,6 +15,7 @@ pub enum Failure {
     Reported,
 }
 
+// A `?` needs each of these: memory fails in three ways, a file in one, and a line in two.
 impl From<AllocError> for Failure {
     fn from(_e: AllocError) -> Failure {
         Failure::Memory
