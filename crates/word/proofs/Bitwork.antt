@@ -1,91 +1,82 @@
--- Shifts and masks as quotients and remainders.
-use Rattle.std.proofs.Common.{◌≡◌, ℕ, ◌+◌, ◌-◌, ◌*◌, ◌/◌, ◌%◌, ◌^◌, ◌<◌, ◌≤◌, Bool, true, false, eqb, sym, refl, ap, ◌∙◌, ⊎_elim, mul_assoc, add-mul, arith}
+-- The bits of a number after one of them was put.
+use Rattle.std.proofs.Common.{◌≡◌, ℕ, suc, ◌+◌, ◌-◌, ◌*◌, ◌/◌, ◌%◌, ◌^◌, ◌<◌, ◌≤◌, ◌≢◌, Bool, true, false, eqb, sym, refl, ap, ◌∙◌, ⊎_elim, arith}
 use lib.Bits.{bit_and, bit_or}
-use mir.Val.{bool_byte}
-use Rattle.std.proofs.lemmas.Nat.{and_mask, or_shifted, pow_pos, pow-add, shl_whole, one_shl, shr_below, shr_le, mod_below, shr_high, shr-shr, field_of, mod-pow-add, div-add-mod'}
-use Rattle.std.proofs.lemmas.Bool.{cases_lt}
-use Rattle.word.specs.Bits.{num, bit_of, number_with_bit}
+use mir.Syntax.{w16}
+use Rattle.std.specs.Int.{bit_at}
+use Rattle.std.proofs.lemmas.Bool.{cases_eq, cases_lt}
+use Rattle.std.proofs.lemmas.Nat.{and_le_l, mod_below, or_lt, pow_pos, shr_split}
+use Rattle.std.proofs.lemmas.Nat.Bits.{bit_at-suc, bit_at_above, bit_at_cat_high, bit_at_cat_low, bit_at_clear_other, bit_at_clear_same, bit_at_lowest, bit_at_set_other, bit_at_set_same, same_from_bits}
+use Rattle.word.specs.Bits.{bit_of, num, number_with_bit}
 
-pub num_lt : (b : Bool) → num b < 2
+num_lt : (b : Bool) → num b < 2
 num_lt true = omega arith
 num_lt false = omega arith
 
-pub num_bit : (b : Bool) → eqb (num b) 1 ≡ b
+num_bit : (b : Bool) → eqb (num b) 1 ≡ b
 num_bit true = refl
 num_bit false = refl
 
-pub num_byte : (b : Bool) → bool_byte b ≡ num b
-num_byte true = refl
-num_byte false = refl
+module _ (w s : ℕ) (b : Bool) where
+  low : w % 2 ^ s < 2 ^ s
+  low = mod_below w (2 ^ s) (pow_pos s)
 
--- the lowest bit of a number, as a test
-pub low_bit : (n : ℕ) → eqb (bit_and n 1) 1 ≡ eqb (n % 2) 1
-low_bit n = ap (λ (x : ℕ). eqb x 1) (and_mask n 1)
+  bit_put : bit_at (number_with_bit w s b) s ≡ num b
+  bit_put =
+      let h = w / 2 ^ s / 2 * 2 + num b in
+      let e = bit_at_cat_high h s (w % 2 ^ s) s low (omega arith) in
+      let z : s - s ≡ 0 = omega arith in
+      let f = bit_at_lowest h in
+      let l = num_lt b in
+      rw (e, z, f) (omega arith)
 
--- below an even bound the lowest bit does not matter
-even_lt : (j : ℕ) → 0 < j → (x o : ℕ) → x < 2 ^ j → o < 2 → x / 2 * 2 + o < 2 ^ j
-even_lt j hj x o h ho =
-    let p : j ≡ (j - 1) + 1 = omega arith in
-    let q : 2 ^ j ≡ 2 ^ (j - 1) * 2 = ap (λ (k : ℕ). 2 ^ k) p ∙ pow-add 2 (j - 1) 1 in
-    omega arith
+  -- a bit further left, of a number with these bits from s on
+  left : (h t : ℕ) → s < t → bit_at (h * 2 ^ s + w % 2 ^ s) t ≡ bit_at (h / 2) (t - s - 1)
+  left h t l =
+      let e : t - s ≡ suc (t - s - 1) = omega arith in
+      bit_at_cat_high h s (w % 2 ^ s) t low (omega arith) ∙ (ap (bit_at h) e ∙ bit_at-suc h (t - s - 1))
+
+  bit_kept : (t : ℕ) → t ≢ s → bit_at (number_with_bit w s b) t ≡ bit_at w t
+  bit_kept t ne =
+      let h = w / 2 ^ s / 2 * 2 + num b in
+      let whole : bit_at (w / 2 ^ s * 2 ^ s + w % 2 ^ s) t ≡ bit_at w t = ap (λ (x : ℕ). bit_at x t) (shr_split w s) in
+      let l = num_lt b in
+      let q : h / 2 ≡ w / 2 ^ s / 2 = omega arith in
+      ⊎_elim
+      (λ (r : t < s). bit_at_cat_low h s (w % 2 ^ s) t r ∙ (sym (bit_at_cat_low (w / 2 ^ s) s (w % 2 ^ s) t r) ∙ whole))
+      (λ (r : s ≤ t). left h t (omega arith) ∙ (ap (λ (x : ℕ). bit_at x (t - s - 1)) q ∙ (sym (left (w / 2 ^ s) t (omega arith)) ∙ whole)))
+      (cases_lt t s)
+
+  pub put_same : bit_of (number_with_bit w s b) s ≡ b
+  put_same = ap (λ (x : ℕ). eqb x 1) bit_put ∙ num_bit b
+
+  pub put_other : (t : ℕ) → t ≢ s → bit_of (number_with_bit w s b) t ≡ bit_of w t
+  put_other t ne = ap (λ (x : ℕ). eqb x 1) (bit_kept t ne)
+
+  -- a halfword with these bits is that number
+  by_bits : (x : ℕ) → w < 2 ^ 16 → s < 16 → x < 2 ^ 16 → bit_at x s ≡ num b → ((t : ℕ) → t < 16 → t ≢ s → bit_at x t ≡ bit_at w t) → x ≡ number_with_bit w s b
+  by_bits x hw hs hx here other =
+      let rest : (t : ℕ) → t ≢ s → bit_at x t ≡ bit_at w t =
+      λ t ne. ⊎_elim
+      (λ (r : t < 16). other t r ne)
+      (λ (r : 16 ≤ t). bit_at_above x 16 t hx r ∙ sym (bit_at_above w 16 t hw r))
+      (cases_lt t 16)
+      in
+      same_from_bits x (number_with_bit w s b)
+      (λ t. ⊎_elim
+      (λ (e : t ≡ s). rw e (here ∙ sym bit_put))
+      (λ (ne : t ≢ s). rest t ne ∙ sym (bit_kept t ne))
+      (cases_eq t s))
 
 module _ (w s : ℕ) (hw : w < 2 ^ 16) (hs : s < 16) where
-  above_lt : w / 2 ^ s < 2 ^ (16 - s)
-  above_lt =
-      let e : 16 - s + s ≡ 16 = omega arith in
-      shr_below w (16 - s) s (rw e hw)
+  pub bit_set : bit_or w (1 * 2 ^ s % 65536) ≡ number_with_bit w s true
+  bit_set =
+      by_bits w s true (bit_or w (1 * 2 ^ s % 65536)) hw hs (or_lt 16 w (1 * 2 ^ s % 65536) hw (omega arith)) (bit_at_set_same w16 w s hs)
+      (λ t _ ne. bit_at_set_other w16 w s hs t ne)
 
-  -- the code's shifts and masks make the quotients and remainders
-  pub put_bits : (o : ℕ) → o < 2 → bit_or (bit_or (w / 2 ^ s / 2 * 2 % 65536) o * 2 ^ s % 65536) (bit_and w (1 * 2 ^ s % 65536 - 1)) ≡ (w / 2 ^ s / 2 * 2 + o) * 2 ^ s + w % 2 ^ s
-  put_bits o ho =
-      let l = above_lt in
-      let le = shr_le w s in
-      let e1 : w / 2 ^ s / 2 * 2 % 65536 ≡ w / 2 ^ s / 2 * 2 = omega arith in
-      let e2 = or_shifted (w / 2 ^ s / 2) 1 o ho in
-      let h3 : w / 2 ^ s / 2 * 2 + o < 2 ^ (16 - s) = even_lt (16 - s) (omega arith) (w / 2 ^ s) o l ho in
-      let e3 = shl_whole (w / 2 ^ s / 2 * 2 + o) (16 - s) s 16 h3 (omega arith) in
-      let e4 = one_shl s 16 hs in
-      let e5 = or_shifted (w / 2 ^ s / 2 * 2 + o) s (w % 2 ^ s) (mod_below w (2 ^ s) (pow_pos s)) in
-      rw (e1, e2, e3, e4, and_mask w s, e5)
+  pub bit_cleared : bit_and w (65535 - 1 * 2 ^ s % 65536) ≡ number_with_bit w s false
+  bit_cleared =
+      let le = and_le_l w (65535 - 1 * 2 ^ s % 65536) in
+      by_bits w s false (bit_and w (65535 - 1 * 2 ^ s % 65536)) hw hs (omega arith) (bit_at_clear_same w16 w s hs)
+      (λ t h ne. bit_at_clear_other w16 w s hs t h ne)
 
--- the bit that was put, and the others
-pub put_same : (w s : ℕ) (b : Bool) → bit_of (number_with_bit w s b) s ≡ b
-put_same w s b =
-    let q = shr_high (w / 2 ^ s / 2 * 2 + num b) s (w % 2 ^ s) (mod_below w (2 ^ s) (pow_pos s)) in
-    let hb = num_lt b in
-    let r : (w / 2 ^ s / 2 * 2 + num b) % 2 ≡ num b = omega arith in
-    rw (q, r) (num_bit b)
-
-put_above : (w s t : ℕ) (b : Bool) → s < t → number_with_bit w s b / 2 ^ t ≡ w / 2 ^ t
-put_above w s t b h =
-    let u = t - s - 1 in
-    let e : t ≡ s + (1 + u) = omega arith in
-    let q = shr_high (w / 2 ^ s / 2 * 2 + num b) s (w % 2 ^ s) (mod_below w (2 ^ s) (pow_pos s)) in
-    let hb = num_lt b in
-    let r : (w / 2 ^ s / 2 * 2 + num b) / 2 ≡ w / 2 ^ s / 2 = omega arith in
-    rw (e, ← shr-shr (number_with_bit w s b) s (1 + u), q, ← shr-shr (w / 2 ^ s / 2 * 2 + num b) 1 u, r, ← shr-shr w s (1 + u), ← shr-shr (w / 2 ^ s) 1 u) refl
-
-put_below : (w s t : ℕ) (b : Bool) → t < s → number_with_bit w s b / 2 ^ t % 2 ≡ w / 2 ^ t % 2
-put_below w s t b h =
-    let u = s - t - 1 in
-    let Q = w / 2 ^ s / 2 * 2 + num b in
-    let e : s ≡ (u + 1) + t = omega arith in
-    let p1 : 2 ^ s ≡ 2 ^ (u + 1) * 2 ^ t = ap (λ (k : ℕ). 2 ^ k) e ∙ pow-add 2 (u + 1) t in
-    let p2 : Q * 2 ^ s ≡ Q * 2 ^ (u + 1) * 2 ^ t = ap (λ (x : ℕ). Q * x) p1 ∙ sym (mul_assoc Q (2 ^ (u + 1)) (2 ^ t)) in
-    let p3 = add-mul (Q * 2 ^ (u + 1)) (w % 2 ^ s / 2 ^ t) (2 ^ t) in
-    let p4 = div-add-mod' (w % 2 ^ s) (2 ^ t) in
-    let mid : number_with_bit w s b ≡ (Q * 2 ^ (u + 1) + w % 2 ^ s / 2 ^ t) * 2 ^ t + w % 2 ^ s % 2 ^ t = omega arith in
-    let q : number_with_bit w s b / 2 ^ t ≡ Q * 2 ^ (u + 1) + w % 2 ^ s / 2 ^ t =
-    rw mid (shr_high (Q * 2 ^ (u + 1) + w % 2 ^ s / 2 ^ t) t (w % 2 ^ s % 2 ^ t) (mod_below (w % 2 ^ s) (2 ^ t) (pow_pos t)))
-    in
-    let f : w % 2 ^ s / 2 ^ t ≡ w / 2 ^ t % 2 ^ (u + 1) = ap (λ (k : ℕ). w % 2 ^ k / 2 ^ t) e ∙ field_of w (u + 1) t in
-    let g = mod-pow-add (w / 2 ^ t) u 1 in
-    let k : Q * 2 ^ (u + 1) ≡ Q * 2 ^ u * 2 = ap (λ (x : ℕ). Q * x) (pow-add 2 u 1) ∙ sym (mul_assoc Q (2 ^ u) 2) in
-    rw q (omega arith)
-
-pub put_other : (w s t : ℕ) (b : Bool) → (t ≡ s → ⊥) → bit_of (number_with_bit w s b) t ≡ bit_of w t
-put_other w s t b ne =
-    ⊎_elim
-    (λ (h : t < s). ap (λ (x : ℕ). eqb x 1) (put_below w s t b h))
-    (λ (h : s ≤ t). ap (λ (x : ℕ). eqb (x % 2) 1) (put_above w s t b (omega arith)))
-    (cases_lt t s)
+pub ruleset put = (bit_set, bit_cleared)

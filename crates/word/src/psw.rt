@@ -1,7 +1,7 @@
 // The program status word.
 
 // Its four halfwords: bits 0-15, 16-31, 32-47 and 48-63.
-#[derive(Clone, Copy)]
+#[derive(Clone, Copy, PartialEq, Eq, Debug, Default)]
 pub struct Psw {
     pub counter: u16,
     pub status: u16,
