@@ -1,5 +1,4 @@
 mod CellBits
-mod Counting
 mod PackedFacts
 pub mod CellFacts
 pub mod PlaceFacts

@@ -1,14 +1,14 @@
 -- What packed storage means, read and changed.
-use Rattle.std.proofs.Common.{◌≡◌, ℕ, ◌/◌, ◌<◌, ◌≤◌, Bool, true, List, map, length, get_or, set, Some, None, sym, ap, ◌∙◌, ⊎_elim, arith}
-use Rattle.std.specs.List.{range_with_len}
-use Rattle.std.proofs.lemmas.List.FromFn.{length-map-range_with_len}
-use Rattle.std.proofs.lemmas.List.{get_or_read, length-set, get_or-set_same, get_or-set_other}
-use Rattle.std.proofs.lemmas.Bool.{cases_eq, cond_below}
-use Rattle.storage.specs.Meaning.{Place, at, read_of, protected_of, written, guarded, blank, place_with_value, place_with_protect}
+use Rattle.std.proofs.Common.{◌≡◌, ℕ, ◌/◌, ◌<◌, ◌≢◌, Bool, true, List, length, get_or, set, Some, None, Option, cond, sym, ap, ◌∙◌, ⊎_elim, zero-add, arith}
+use Rattle.std.proofs.lemmas.Grind.{common_steps}
+use Rattle.std.proofs.lemmas.List.FromFn.{length-map-range_with_len, get_or-map-range_with_len}
+use Rattle.std.proofs.lemmas.List.{ext_get_or, get_or_read, length-set, get_or-set_same, get_or-set_other}
+use Rattle.std.proofs.lemmas.Bool.{cases_eq}
+use Rattle.std.proofs.lemmas.Bool.Decides.{nat_tests}
+use Rattle.storage.specs.Meaning.{Place, at, within, read_of, protected_of, written, guarded, blank, place_with_value, place_with_protect}
 use Rattle.word.specs.Bits.{bit_of, number_with_bit, from_right}
-use Rattle.storage.specs.Packed.{packed, packed_size, packed_place, values_written, bits_guarded}
+use Rattle.storage.specs.Packed.{packed, packed_size, packed_place}
 use Rattle.word.proofs.Bitwork.{put_same, put_other}
-use Rattle.storage.proofs.Counting.{counted_at, counted_set}
 
 module _ (vs ps : List ℕ) where
   pub length-packed : length (packed vs ps) ≡ packed_size vs ps
@@ -17,78 +17,67 @@ module _ (vs ps : List ℕ) where
 
   pub at_packed : (i : ℕ) → i < packed_size vs ps → at (packed vs ps) i ≡ packed_place vs ps i
   unfolding packed
-  at_packed i h = counted_at (packed_place vs ps) (packed_size vs ps) i blank h
+  at_packed i h = get_or-map-range_with_len (packed_place vs ps) 0 (packed_size vs ps) i i blank h (zero-add i)
 
-  pub packed_few : length (packed vs ps) ≤ 524288
-  packed_few = let l = length-packed in omega arith
+-- Two storages of one size with the same places.
+pub same_places : (m : List Place) (vs ps : List ℕ) → length m ≡ packed_size vs ps → ((k : ℕ) → k < packed_size vs ps → at m k ≡ packed_place vs ps k) → packed vs ps ≡ m
+same_places m vs ps h e =
+    let l = length-packed vs ps in
+    ext_get_or blank (packed vs ps) m (l ∙ sym h) (λ k b. let b' : k < packed_size vs ps = omega arith in at_packed vs ps k b' ∙ sym (e k b'))
 
-  -- Where one place changes and no other, the list of places is set there.
-  changed : (vs' ps' : List ℕ) (i : ℕ) (p : Place) → i < packed_size vs ps → packed_size vs' ps' ≡ packed_size vs ps → ((k : ℕ) → (k ≡ i → ⊥) → packed_place vs' ps' k ≡ packed_place vs ps k) → packed_place vs' ps' i ≡ p → packed vs' ps' ≡ set (packed vs ps) i p
-  unfolding packed
-  changed vs' ps' i p h size other here =
-      ap (λ (m : ℕ). map (packed_place vs' ps') (range_with_len 0 m)) size ∙ (counted_set (packed_place vs ps) (packed_size vs ps) (packed_place vs' ps') i h other ∙ ap (λ (q : Place). set (map (packed_place vs ps) (range_with_len 0 (packed_size vs ps))) i q) here)
-
-  pub packed-written : (i v : ℕ) → i < packed_size vs ps → packed (set vs i v) ps ≡ set (packed vs ps) i (place_with_value (at (packed vs ps) i) v)
+module _ (vs ps : List ℕ) where
+  packed-written : (i v : ℕ) → i < packed_size vs ps → packed (set vs i v) ps ≡ set (packed vs ps) i (place_with_value (at (packed vs ps) i) v)
   packed-written i v h =
-      let a = at_packed i h in
-      let hl : i < length vs = omega arith in
-      let e = get_or-set_same vs i v 0 hl in
-      changed (set vs i v) ps i (place_with_value (at (packed vs ps) i) v) h (simp length-set) (λ k ne. simp (get_or-set_other vs i k v 0 ne)) (simp (e, a))
+      let l = length-packed vs ps in
+      same_places (set (packed vs ps) i (place_with_value (at (packed vs ps) i) v)) (set vs i v) ps (simp length-set l)
+      (λ k b. let a = at_packed vs ps k (simp length-set at b) in grind (arith, common_steps, at_packed vs ps i h))
 
-  pub packed-guarded : (i : ℕ) (b : Bool) → i < packed_size vs ps → packed vs (set ps (i / 16) (number_with_bit (get_or ps (i / 16) 0) (from_right i) b)) ≡ set (packed vs ps) i (place_with_protect (at (packed vs ps) i) b)
-  packed-guarded i b h =
-      let w = number_with_bit (get_or ps (i / 16) 0) (from_right i) b in
-      let a = at_packed i h in
-      let hl : i / 16 < length ps = omega arith in
-      let e = get_or-set_same ps (i / 16) w 0 hl in
-      let bit : bit_of w (from_right i) ≡ b = put_same (get_or ps (i / 16) 0) (from_right i) b in
-      let other : (k : ℕ) → (k ≡ i → ⊥) → bit_of (get_or (set ps (i / 16) w) (k / 16) 0) (from_right k) ≡ bit_of (get_or ps (k / 16) 0) (from_right k) =
-      λ k ne. ⊎_elim
-      (λ (q : k / 16 ≡ i / 16). rw (q, e) (put_other (get_or ps (i / 16) 0) (from_right i) (from_right k) b (λ s. omega arith)))
-      (λ (nq : k / 16 ≡ i / 16 → ⊥). ap (λ (x : ℕ). bit_of x (from_right k)) (get_or-set_other ps (i / 16) (k / 16) w 0 nq))
+  -- The protect bits after that of place i was put.
+  abbrev bits : ℕ → Bool → List ℕ
+  bits i b = set ps (i / 16) (number_with_bit (get_or ps (i / 16) 0) (from_right i) b)
+
+  bit_kept : (i k : ℕ) (b : Bool) → k ≢ i → i / 16 < length ps → bit_of (get_or (bits i b) (k / 16) 0) (from_right k) ≡ bit_of (get_or ps (k / 16) 0) (from_right k)
+  bit_kept i k b ne h =
+      let w = get_or ps (i / 16) 0 in
+      let x = number_with_bit w (from_right i) b in
+      ⊎_elim
+      (λ (q : k / 16 ≡ i / 16). rw (q, get_or-set_same ps (i / 16) x 0 h) (put_other w (from_right i) b (from_right k) (λ s. omega arith)))
+      (λ (n : k / 16 ≢ i / 16). ap (λ (y : ℕ). bit_of y (from_right k)) (get_or-set_other ps (i / 16) (k / 16) x 0 n))
       (cases_eq (k / 16) (i / 16))
-      in
-      changed vs (set ps (i / 16) w) i (place_with_protect (at (packed vs ps) i) b) h (simp length-set)
-      (λ k ne. ap (λ (x : Bool). record { value = get_or vs k 0; protected = x; sound = true }) (other k ne))
-      (simp (e, bit, a))
 
-  inside : (i : ℕ) → i < length (packed vs ps) → i < packed_size vs ps
-  inside i h = let l = length-packed in omega arith
+  packed-guarded : (i : ℕ) (b : Bool) → i < packed_size vs ps → packed vs (bits i b) ≡ set (packed vs ps) i (place_with_protect (at (packed vs ps) i) b)
+  packed-guarded i b h =
+      let w = get_or ps (i / 16) 0 in
+      let l = length-packed vs ps in
+      same_places (set (packed vs ps) i (place_with_protect (at (packed vs ps) i) b)) vs (bits i b) (simp length-set l)
+      (λ k t. let a = at_packed vs ps k (simp length-set at t) in grind (arith, common_steps, at_packed vs ps i h, put_same w (from_right i) b, bit_kept i k b))
 
-  -- What the code reads, writes and guards at a place below the size.
-  module _ (i : ℕ) (h : i < length (packed vs ps)) where
-    pub packed_value_inside : i < length vs
-    packed_value_inside = let l = inside i h in omega arith
+  -- What the code does at an index i, which it got by the test whether place p lies below the size.
+  module _ (p : ℕ) (r : Option ℕ) (e : r ≡ cond (within (packed vs ps) p) (Some p) None) (i : ℕ) (s : r ≡ Some i) where
+    same : i ≡ p
+    same = grind (arith, nat_tests)
 
-    pub packed_bit_inside : i / 16 < length ps
-    packed_bit_inside = let l = inside i h in omega arith
+    below : i < packed_size vs ps
+    below = grind (arith, nat_tests, length-packed vs ps)
 
-    pub packed_read : (v : ℕ) → v ≡ get_or vs i v → Some (v, true) ≡ read_of (packed vs ps) i
-    packed_read v found =
-        let e : get_or vs i 0 ≡ v = sym (get_or_read vs i v packed_value_inside found 0) in
-        let here : (v, true) ≡ ((at (packed vs ps) i).value, (at (packed vs ps) i).sound) = simp (at_packed i (inside i h), e) in
-        ap Some here ∙ cond_below i (length (packed vs ps)) _ None h
+    pub found_read : (v : ℕ) → v ≡ get_or vs i v → Some (v, true) ≡ read_of (packed vs ps) p
+    found_read v f =
+        let b = below in
+        grind (arith, nat_tests, same, length-packed vs ps, at_packed vs ps i b, get_or_read vs i v (omega arith) f 0)
 
-    pub packed-protected : (w : ℕ) → w ≡ get_or ps (i / 16) w → Some (bit_of w (from_right i)) ≡ protected_of (packed vs ps) i
-    packed-protected w found =
-        let e : get_or ps (i / 16) 0 ≡ w = sym (get_or_read ps (i / 16) w packed_bit_inside found 0) in
-        let here : bit_of w (from_right i) ≡ (at (packed vs ps) i).protected = simp (at_packed i (inside i h), e) in
-        ap Some here ∙ cond_below i (length (packed vs ps)) _ None h
+    pub found_protected : (w : ℕ) → w ≡ get_or ps (i / 16) w → Some (bit_of w (from_right p)) ≡ protected_of (packed vs ps) p
+    found_protected w f =
+        let b = below in
+        grind (arith, nat_tests, same, length-packed vs ps, at_packed vs ps i b, get_or_read ps (i / 16) w (omega arith) f 0)
 
-    pub packed-writes : (v : ℕ) → packed (set vs i v) ps ≡ written (packed vs ps) i v
-    packed-writes v = packed-written i v (inside i h) ∙ cond_below i (length (packed vs ps)) _ (packed vs ps) h
+    pub found_written : (v : ℕ) → packed (set vs i v) ps ≡ written (packed vs ps) p v
+    found_written v = grind (arith, nat_tests, same, length-packed vs ps, packed-written i v below)
 
-    pub packed_guards : (w x : ℕ) (b : Bool) → w ≡ get_or ps (i / 16) w → x ≡ number_with_bit w (from_right i) b → packed vs (set ps (i / 16) x) ≡ guarded (packed vs ps) i b
-    packed_guards w x b found e =
-        let f : w ≡ get_or ps (i / 16) 0 = get_or_read ps (i / 16) w packed_bit_inside found 0 in
-        ap (λ (y : ℕ). packed vs (set ps (i / 16) y)) (e ∙ ap (λ (y : ℕ). number_with_bit y (from_right i) b) f)
-        ∙ (packed-guarded i b (inside i h) ∙ cond_below i (length (packed vs ps)) _ (packed vs ps) h)
+    pub found_guarded : (w x : ℕ) (b : Bool) → w ≡ get_or ps (i / 16) w → x ≡ number_with_bit w (from_right p) b → packed vs (set ps (i / 16) x) ≡ guarded (packed vs ps) p b
+    found_guarded w x b f h =
+        let k = below in
+        grind (arith, nat_tests, same, length-packed vs ps, packed-guarded i b k, get_or_read ps (i / 16) w (omega arith) f 0)
 
-    pub packed_values : (v : ℕ) → set vs i v ≡ values_written vs ps i v
-    packed_values v = cond_below i (length (packed vs ps)) _ vs h
+pub ruleset sizes = (length-packed, nat_tests)
 
-    pub packed_bits : (w x : ℕ) (b : Bool) → w ≡ get_or ps (i / 16) w → x ≡ number_with_bit w (from_right i) b → set ps (i / 16) x ≡ bits_guarded vs ps i b
-    packed_bits w x b found e =
-        let f : w ≡ get_or ps (i / 16) 0 = get_or_read ps (i / 16) w packed_bit_inside found 0 in
-        ap (λ (y : ℕ). set ps (i / 16) y) (e ∙ ap (λ (y : ℕ). number_with_bit y (from_right i) b) f)
-        ∙ cond_below i (length (packed vs ps)) _ ps h
+pub ruleset found = (found_read, found_protected, found_written, found_guarded)

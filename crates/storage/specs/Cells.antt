@@ -1,17 +1,13 @@
 -- Cell storage: a cell's low 16 bits are the value, then come the parity bit, the protect bit, and 14 bits that are kept.
-use Rattle.std.specs.Prelude.{ℕ, ◌+◌, ◌-◌, ◌*◌, ◌/◌, ◌%◌, Bool, cond, List, map, take, Some, None, Option, ◌==◌, count_ones, slice_index, slice_set}
+use Rattle.std.specs.Prelude.{ℕ, ◌+◌, ◌-◌, ◌*◌, ◌/◌, ◌%◌, Bool, List, ◌==◌, count_ones, vec_items}
 use Rattle.word.specs.Bits.{num}
-use Rattle.storage.specs.Meaning.{Place, within}
+use Rattle.storage.specs.Meaning.{Place, changed, places_of}
+use Rattle.storage.specs.declared.cells.CellStorage.{CellStorage}
 
 -- A cell is sound when value and parity bit together hold an odd count of ones.
 abbrev pub cell_of : ℕ → Place
 cell_of c =
     record { value = c % 65536; protected = (c / 131072 % 2 == 1); sound = (count_ones (c % 131072) % 2 == 1) }
-
--- What a cell that was found means.
-abbrev pub found_cell : Option ℕ → Option Place
-found_cell (Some c) = Some (cell_of c)
-found_cell None = None
 
 -- The parity bit that makes the count of ones odd.
 abbrev pub parity_of : ℕ → ℕ
@@ -26,16 +22,15 @@ abbrev pub cell_guarded : ℕ → Bool → ℕ
 cell_guarded c b = (c / 262144 * 2 + num b) * 131072 + c % 131072
 
 -- What a list of cells means: at most 524,288 places.
-unfoldable pub cells : List ℕ → List Place
-cells cs = map cell_of (take 524288 cs)
+abbrev pub cells : List ℕ → List Place
+cells cs = places_of cell_of cs
 
--- The cell of a place, or none at or above the size.
-abbrev pub cell_in : List ℕ → ℕ → Option ℕ
-cell_in cs i = cond (within (cells cs) i) (Some (slice_index cs i)) None
+abbrev pub cell_places : CellStorage → List Place
+cell_places s = cells (vec_items s.cells)
 
 -- The list of cells after a write and after a guard: every other cell is kept, those at or above the size too.
 abbrev pub cells_written : List ℕ → ℕ → ℕ → List ℕ
-cells_written cs i v = cond (within (cells cs) i) (slice_set cs i (cell_written (slice_index cs i) v)) cs
+cells_written cs i v = changed (λ c. cell_written c v) cs i
 
 abbrev pub cells_guarded : List ℕ → ℕ → Bool → List ℕ
-cells_guarded cs i b = cond (within (cells cs) i) (slice_set cs i (cell_guarded (slice_index cs i) b)) cs
+cells_guarded cs i b = changed (λ c. cell_guarded c b) cs i

@@ -1,5 +1,5 @@
 -- What a storage means: one place after another, each a halfword, a protect bit and a mark, sound or unsound.
-use Rattle.std.specs.Prelude.{ℕ, Bool, true, false, cond, List, map, length, take, Some, None, Option, nat_lt, slice_index_or, slice_set}
+use Rattle.std.specs.Prelude.{ℕ, Bool, true, false, cond, List, map, length, take, Some, None, Option, nat_lt, slice_get, slice_index_or, slice_set}
 
 pub record Place : Type 0 where
   pub value : ℕ
@@ -15,10 +15,6 @@ at m i = slice_index_or m i blank
 -- Place i lies below the size.
 abbrev pub within : List Place → ℕ → Bool
 within m i = nat_lt i (length m)
-
--- What stands at place i, or none at or above the size.
-abbrev pub place_of : List Place → ℕ → Option Place
-place_of m i = cond (within m i) (Some (at m i)) None
 
 -- Read: the halfword and the mark, or none at or above the size.
 abbrev pub read_of : List Place → ℕ → Option (ℕ × Bool)
@@ -48,7 +44,6 @@ guarded m i b = cond (within m i) (slice_set m i (place_with_protect (at m i) b)
 unfoldable pub places_of : {X : Type 0} → (X → Place) → List X → List Place
 places_of place xs = map place (take 524288 xs)
 
--- What an element that was found means.
-abbrev pub found_as : {X : Type 0} → (X → Place) → Option X → Option Place
-found_as place (Some x) = Some (place x)
-found_as place None = None
+-- The list after the element of place i was changed: every other element is kept, those at or above the size too.
+unfoldable pub changed : {X : Type 0} → (X → X) → List X → ℕ → List X
+changed change xs i = elim (slice_get (take 524288 xs) i) [ Some x ↦ slice_set xs i (change x) | None ↦ xs ]

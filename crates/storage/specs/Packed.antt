@@ -1,8 +1,9 @@
 -- Packed storage: a list of halfwords, and a list of protect bits, sixteen to a halfword from the left.
-use Rattle.std.specs.Prelude.{ℕ, ◌*◌, ◌/◌, min, Bool, true, cond, List, map, length, Some, None, Option, slice_index, slice_set}
+use Rattle.std.specs.Prelude.{ℕ, ◌*◌, ◌/◌, min, Bool, true, cond, List, map, length, slice_index, slice_set, vec_items}
 use Rattle.std.specs.List.{range_with_len}
 use Rattle.word.specs.Bits.{bit_of, number_with_bit, from_right}
 use Rattle.storage.specs.Meaning.{Place, within}
+use Rattle.storage.specs.declared.packed.PackedStorage.{PackedStorage}
 
 -- The size: the least of the count of values, the count of protect bits, and 524,288.
 abbrev pub packed_size : List ℕ → List ℕ → ℕ
@@ -17,15 +18,8 @@ packed_place vs ps i =
 unfoldable pub packed : List ℕ → List ℕ → List Place
 packed vs ps = map (packed_place vs ps) (range_with_len 0 (packed_size vs ps))
 
--- What a value that was found is read as: every place is sound.
-abbrev pub found_value : Option ℕ → Option (ℕ × Bool)
-found_value (Some v) = Some (v, true)
-found_value None = None
-
--- The protect bit of place i in the halfword that was found to hold it.
-abbrev pub found_bit : Option ℕ → ℕ → Option Bool
-found_bit (Some w) i = Some (bit_of w (from_right i))
-found_bit None i = None
+abbrev pub packed_places : PackedStorage → List Place
+packed_places s = packed (vec_items s.values) (vec_items s.protects)
 
 -- The values after a write, and the protect bits after a guard: all else is kept, also what lies at or above the size.
 abbrev pub values_written : List ℕ → List ℕ → ℕ → ℕ → List ℕ

@@ -6,9 +6,11 @@ ghost use Rattle.std.specs.Prelude.{◌≡◌, ◌≤◌, List, length};
 ghost use Rattle.storage.specs.Meaning.{Place, guarded, protected_of, read_of, within, written};
 
 pub mod cells;
+pub mod elements;
 pub mod packed;
 
 // What every storage shows. Its meaning is the list of its places, and the length of that list its size.
+// The rules of the machine fix the form of the answers: a halfword with its mark, a protect bit, yes or no.
 pub trait Storage {
     ghost meaning: { Self → List Place };
 
