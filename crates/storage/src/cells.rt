@@ -19,7 +19,7 @@ impl Element for u32 {
         (*self & 0xffff) as u16
     }
 
-    // Whether value and parity bit together hold an odd count of ones.
+    // Value and parity bit together hold an odd count of ones.
     fn is_sound(&self) -> bool {
         (*self & 0x1_ffff).count_ones() % 2 == 1
     }
@@ -28,6 +28,7 @@ impl Element for u32 {
         *self >> 17 & 1 == 1
     }
 
+    // The parity bit makes the count of ones odd; the protect bit and the 14 bits above are kept.
     #[tactic(auto, using(crate::proofs::CellBits::parity_lt))]
     fn put_value(&mut self, value: u16)
         ensures element { self.new ≡ cell_written self.old value }
@@ -38,6 +39,7 @@ impl Element for u32 {
         *self = (*self >> 17 << 1 | parity) << 16 | u32::from(value);
     }
 
+    // All but the protect bit is kept.
     fn put_protect(&mut self, bit: bool)
         ensures element { self.new ≡ cell_guarded self.old bit }
         ensures after { cell_of self.new ≡ place_with_protect (cell_of self.old) bit }
@@ -82,8 +84,7 @@ impl CellStorage {
     pub fn into_cells(self) -> Vec<u32>
         ensures { result ≡ self.cells }
     {
-        let CellStorage { cells } = self;
-        cells
+        self.cells
     }
 }
 

@@ -11,6 +11,7 @@ pub trait Element {
 
     ghost with_protect: { Self → Bool → Self };
 
+    // The halfword of the place, its mark (true for sound), and its protect bit.
     fn value(&self) -> u16
         ensures { result ≡ (place self.now).value };
 

@@ -38,8 +38,7 @@ impl PackedStorage {
     pub fn into_lists(self) -> (Vec<u16>, Vec<u16>)
         ensures { result ≡ (self.values, self.protects) }
     {
-        let PackedStorage { values, protects } = self;
-        (values, protects)
+        (self.values, self.protects)
     }
 
     // The index of a place, or none at or above the size.
