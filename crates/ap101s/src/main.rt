@@ -40,8 +40,5 @@ fn perform(rt: &HostRuntime) -> Result<(), Failure> {
 
 // A session that ends early ends the program with status 1.
 fn main(rt: HostRuntime) -> ExitCode {
-    match perform(&rt) {
-        Ok(()) => ExitCode::SUCCESS,
-        Err(_failure) => ExitCode::FAILURE,
-    }
+    perform(&rt).map_or(ExitCode::FAILURE, |()| ExitCode::SUCCESS)
 }

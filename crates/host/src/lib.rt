@@ -21,7 +21,8 @@ pub struct Seal {
     sealed: (),
 }
 
-// What every host shows. A host of one's own writes the first four methods; the other four are the calls.
+// What every host shows. A host of one's own writes the first four methods; the other four are the calls. They are pairs,
+// since only these bodies can make or end a token.
 pub trait Host {
     ghost meaning: { Self → Meaning };
 
@@ -74,7 +75,7 @@ pub trait Host {
     }
 }
 
-// Whether a command is for input: bit 0, the leftmost, is one.
+// Whether a command is for input: bit 0, the leftmost, is one. A command is a fullword by the rules of the machine.
 pub fn is_input(command: u32) -> bool
     ensures { result ≡ command_is_input command }
 {

@@ -39,8 +39,5 @@ fn sessions(rt: &HostRuntime) -> Result<(), Failure> {
 }
 
 fn main(rt: HostRuntime) -> ExitCode {
-    match sessions(&rt) {
-        Ok(()) => ExitCode::SUCCESS,
-        Err(_failure) => ExitCode::FAILURE,
-    }
+    sessions(&rt).map_or(ExitCode::FAILURE, |()| ExitCode::SUCCESS)
 }

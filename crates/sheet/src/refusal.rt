@@ -77,7 +77,7 @@ impl fmt::Display for Refusal {
 impl Error for Refusal {}
 
 impl Refusal {
-    // The number of the refusal.
+    // The number by which the rules of the machine know the refusal; the cases are what code passes on.
     pub fn number(self) -> u16
         ensures { result ≡ (refusal_of self).number }
     {
