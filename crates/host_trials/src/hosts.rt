@@ -130,9 +130,9 @@ fn exhibits(rt: HostRuntime) -> Result<(), Fail> {
     let operator = Stopped::new();
     let mut storage = LentStorage::new(&mut slots);
     assert!(rt; operator.examine(&storage, 299).is_err(), "unsound");
-    assert!(rt; operator.deposit(&mut storage, 299, 0xabcd).is_ok());
-    assert!(rt; operator.protect(&mut storage, 299, true).is_ok());
-    assert!(rt; matches!(operator.examine(&storage, 299), Ok(0xabcd)));
+    assert_eq!(rt; operator.deposit(&mut storage, 299, 0xabcd), Ok(()));
+    assert_eq!(rt; operator.protect(&mut storage, 299, true), Ok(()));
+    assert_eq!(rt; operator.examine(&storage, 299), Ok(0xabcd));
     assert!(rt; operator.deposit(&mut storage, 300, 1).is_err(), "outside");
     assert_eq!(rt; slots[299].value, 0xabcd);
     assert!(rt; slots[299].protected && slots[299].sound);

@@ -36,6 +36,7 @@ pub enum Refusal {
     Storage(StorageFault),
 }
 
+// By hand, since a `?` has to say which refusal it makes, and the `From` of a derive says nothing.
 impl From<SheetFault> for Refusal {
     ghost from_gives = { λ f r. r ≡ refusing.Sheet f };
 
