@@ -62,18 +62,11 @@ fn unread(rt: HostRuntime) {
 }
 
 #[test]
-fn blanks(rt: HostRuntime) {
+fn read(rt: HostRuntime) -> Result<(), Fail> {
     for line in ["", "   ", "# load", "  \t# deposit 80"] {
-        assert!(rt;
-            matches!(read_line(rt.alloc(), line), Ok(Command::Blank)),
-            "{}",
-            line
-        );
+        let read = read_line(rt.alloc(), line);
+        assert!(rt; matches!(read, Ok(Command::Blank)), "{}", line);
     }
-}
-
-#[test]
-fn entries(rt: HostRuntime) -> Result<(), Fail> {
     for (line, entry) in [
         ("entry 4ff ISPB", (0x4ff, 34)),
         ("entry FFFF 65535", (0xffff, 0xffff)),
@@ -84,11 +77,6 @@ fn entries(rt: HostRuntime) -> Result<(), Fail> {
         };
         assert_eq!(rt; (key, number), entry, "{}", line);
     }
-    Ok(())
-}
-
-#[test]
-fn views(rt: HostRuntime) -> Result<(), Fail> {
     for (line, address, count) in [
         ("view FFFFFF00 256", 0xffff_ff00, 256),
         ("view FFFFFFFF 0", 0xffff_ffff, 0),
