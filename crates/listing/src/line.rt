@@ -1,5 +1,5 @@
 // The lines that the program prints.
-ghost use Rattle.std.specs.Prelude.{◌≡◌, cond, Some};
+ghost use Rattle.std.specs.Prelude.{◌≡◌, cond, Some, codes};
 ghost use Rattle.std.specs.Result.{result_ok};
 ghost use Rattle.listing.specs.Lines.{kind_named, kind_text, line_text};
 
@@ -57,6 +57,8 @@ impl fmt::Display for Kind {
 }
 
 impl fmt::Display for UnknownKind {
+    ghost output = { λ _. Some (codes "no such kind of storage") };
+
     fn fmt<W: fmt::Write>(&self, f: &mut fmt::Formatter<W>) -> fmt::Result {
         f.write_str("no such kind of storage")
     }

@@ -1,5 +1,5 @@
 // The operations, their numbers and names, and the instruction formats that admit each.
-ghost use Rattle.std.specs.Prelude.{◌≡◌};
+ghost use Rattle.std.specs.Prelude.{◌≡◌, Some, codes};
 ghost use Rattle.std.specs.Result.{result_ok};
 ghost use Rattle.sheet.specs.Names.{operation_named};
 ghost use Rattle.sheet.specs.Operations.{among, operations, operation_of, number_of, formats_of, format_of_class, admits as admitted};
@@ -58,6 +58,8 @@ pub enum Format {
 pub struct UnknownClass;
 
 impl fmt::Display for UnknownOperation {
+    ghost output = { λ _. Some (codes "no such operation") };
+
     fn fmt<W: fmt::Write>(&self, f: &mut fmt::Formatter<W>) -> fmt::Result {
         f.write_str("no such operation")
     }
@@ -66,6 +68,8 @@ impl fmt::Display for UnknownOperation {
 impl Error for UnknownOperation {}
 
 impl fmt::Display for UnknownClass {
+    ghost output = { λ _. Some (codes "no such instruction class") };
+
     fn fmt<W: fmt::Write>(&self, f: &mut fmt::Formatter<W>) -> fmt::Result {
         f.write_str("no such instruction class")
     }
