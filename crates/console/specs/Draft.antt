@@ -1,6 +1,6 @@
 -- The code sheet that the script's lines write.
 use Rattle.std.specs.Prelude.{ℕ, min, List, [], ◌∷◌, ◌++◌, length, map}
-use Rattle.console.specs.declared.draft.Entry.{Entry}
+use Rattle.script.specs.declared.command.Entry.{Entry}
 
 -- What a load hands over: the halfwords of the `sheet` lines, or with no such line the count, the keys and the numbers
 -- of the `entry` lines. (A count that is no halfword stands as 65,535, which no sheet may have.)

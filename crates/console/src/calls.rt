@@ -23,7 +23,7 @@ impl Machine {
         ensures after { self.new.processor.state ≡ after_load sheet.now self.old.processor.state }
         ensures kept { self.new.store ≡ self.old.store }
     {
-        Line::Load(self.processor.load(sheet))
+        Line::Load(self.processor.load(sheet).into())
     }
 
     pub(crate) fn deposit(&mut self, address: u32, halfword: u16) -> Line
@@ -32,7 +32,7 @@ impl Machine {
         ensures kept { self.new.processor ≡ self.old.processor }
     {
         let answer = self.processor.deposit(&mut self.store, address, halfword);
-        Line::Deposit(address, halfword, answer)
+        Line::Deposit(address, halfword, answer.into())
     }
 
     pub(crate) fn protect(&mut self, address: u32, bit: bool) -> Line
@@ -41,13 +41,14 @@ impl Machine {
         ensures kept { self.new.processor ≡ self.old.processor }
     {
         let answer = self.processor.protect(&mut self.store, address, bit);
-        Line::Protect(address, bit, answer)
+        Line::Protect(address, bit, answer.into())
     }
 
     pub(crate) fn examine(&self, address: u32) -> Line
         ensures { line_text result ≡ examine_text address (value_text (examine_answer (meaning_of self.now.store) address)) }
     {
-        Line::Examine(address, self.processor.examine(&self.store, address))
+        let answer = self.processor.examine(&self.store, address);
+        Line::Examine(address, answer.into())
     }
 
     // A look at a place, which is no call.

@@ -2,15 +2,9 @@
 ghost use Rattle.std.specs.Prelude.{◌≡◌, [], ◌∷◌, ◌++◌, IfOk, OnErr, OnOk};
 ghost use Rattle.console.specs.Draft.{handed_over};
 
+use script::command::Entry;
 use std::alloc::{AllocError, Global};
 use std::iter::once;
-
-// An entry of the sheet: a key, and an operation's number.
-#[derive(Clone, Copy, PartialEq, Eq, Debug)]
-pub struct Entry {
-    pub key: u16,
-    pub number: u16,
-}
 
 // The halfwords of `sheet` lines, and the entries of `entry` lines.
 #[derive(Drop)]
@@ -65,7 +59,7 @@ impl Draft {
 fn of_entries(heap: Global, entries: &[Entry]) -> Result<Vec<u16>, AllocError>
     ensures { IfOk result (λ v. v.items ≡ handed_over [] entries.now) }
 {
-    let count = entries.len().min(0xffff) as u16;
+    let count = u16::try_from(entries.len()).unwrap_or(u16::MAX);
     let keys = entries.iter().map(|entry| entry.key);
     let numbers = entries.iter().map(|entry| entry.number);
     once(count).chain(keys).chain(numbers).collect(heap)

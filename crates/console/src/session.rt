@@ -8,7 +8,7 @@ ghost use Rattle.storage.specs.Meaning.{blank};
 pub mod lines;
 
 use crate::calls::Machine;
-use crate::draft::{Draft, Entry};
+use crate::draft::Draft;
 use crate::failure::Failure;
 use crate::store::Store;
 use listing::line::{Kind, Line};
@@ -28,6 +28,7 @@ enum Phase {
     Called,
 }
 
+// What it writes goes to its caller's text, which is printed line by line of the script.
 #[derive(Drop)]
 pub struct Session {
     heap: Global,
@@ -82,7 +83,7 @@ impl Session {
             Command::Storage { kind, size } => session.choose(kind, size, out)?,
             Command::Cell { address, cells } => return session.put_cells(address, &cells),
             Command::Sheet(halfwords) => session.draft.append(&halfwords)?,
-            Command::Entry { key, number } => session.draft.append_entry(Entry { key, number })?,
+            Command::Entry(entry) => session.draft.append_entry(entry)?,
             Command::Do(_file) => return Err(Failure::Unread),
             Command::Load => session.load(out)?,
             Command::Deposit { address, values } => session.deposit(address, &values, out)?,

@@ -1,8 +1,11 @@
 -- The text of an answer.
-use Rattle.std.specs.Prelude.{ℕ, List, Some, Ok, Err, codes, Option, Result}
+use Rattle.std.specs.Prelude.{ℕ, List, Ok, Err, codes, Result}
 use Rattle.sheet.specs.Refusals.{Refused, refused_text, refusal_of}
 use Rattle.sheet.specs.declared.refusal.Refusal.{Refusal}
 use Rattle.listing.specs.Numbers.{halfword_text}
+use Rattle.listing.specs.declared.answer.Answer.{Answer}
+use Rattle.listing.specs.declared.answer.Served.{Served}
+use Rattle.listing.specs.declared.answer.Served.TheVariants.{Done, Halfword}
 
 -- The answer of a call that serves without a value: that it is done, or what its refusal carries.
 abbrev pub done_text : Result (Unit {0}) Refused → List ℕ
@@ -14,7 +17,12 @@ abbrev pub value_text : Result ℕ Refused → List ℕ
 value_text (Ok h) = halfword_text h
 value_text (Err e) = refused_text e
 
--- What a printed answer writes: what is served, as it writes itself, or the refusal.
-abbrev pub answer_output : {T : Type 0} → (T → Option (List ℕ)) → Result T Refusal → Option (List ℕ)
-answer_output output (Ok served) = output served
-answer_output output (Err refusal) = Some (refused_text (refusal_of refusal))
+-- The text of what is served, or of the refusal.
+abbrev pub served_text : Result Served Refusal → List ℕ
+served_text (Ok Done) = codes "done"
+served_text (Ok (Halfword value)) = halfword_text value
+served_text (Err refusal) = refused_text (refusal_of refusal)
+
+-- The text of an answer.
+abbrev pub answer_text : Answer → List ℕ
+answer_text a = served_text a.0

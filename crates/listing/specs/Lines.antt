@@ -1,9 +1,8 @@
 -- The lines that the program prints.
 use Rattle.std.specs.Prelude.{ℕ, Bool, cond, List, [], ◌∷◌, ◌++◌, codes, decimal, Option}
 use Rattle.listing.specs.Numbers.{halfword_text, address_text}
-use Rattle.listing.specs.Answers.{done_text, value_text}
+use Rattle.listing.specs.Answers.{answer_text}
 use Rattle.sheet.specs.Names.{named}
-use Rattle.sheet.specs.Refusals.{told}
 use Rattle.listing.specs.declared.line.Kind.{Kind}
 use Rattle.listing.specs.declared.line.Kind.TheVariants.{Cells, Packed}
 use Rattle.listing.specs.declared.line.Line.{Line}
@@ -59,9 +58,9 @@ outside_text address = address_text address ++ codes ": outside"
 -- The text of each line.
 abbrev pub line_text : Line → List ℕ
 line_text (Storage kind size) = storage_text kind size
-line_text (Load answer) = load_text (done_text (told answer))
-line_text (Deposit address value answer) = deposit_text address value (done_text (told answer))
-line_text (Protect address bit answer) = protect_text address bit (done_text (told answer))
-line_text (Examine address answer) = examine_text address (value_text (told answer))
+line_text (Load answer) = load_text (answer_text answer)
+line_text (Deposit address value answer) = deposit_text address value (answer_text answer)
+line_text (Protect address bit answer) = protect_text address bit (answer_text answer)
+line_text (Examine address answer) = examine_text address (answer_text answer)
 line_text (Place address value protected sound) = place_text address value protected sound
 line_text (Outside address) = outside_text address

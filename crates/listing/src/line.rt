@@ -3,9 +3,8 @@ ghost use Rattle.std.specs.Prelude.{◌≡◌, cond, Some, codes};
 ghost use Rattle.std.specs.Result.{result_ok};
 ghost use Rattle.listing.specs.Lines.{kind_named, kind_text, line_text};
 
-use crate::answer::{reading, serving};
+use crate::answer::Answer;
 use crate::number::{Address, Halfword};
-use sheet::refusal::Refusal;
 use std::error::Error;
 use std::fmt;
 use std::str::FromStr;
@@ -27,13 +26,13 @@ pub enum Line {
     // The storage was made, with a number of places.
     Storage(Kind, u32),
     // The code sheet was loaded.
-    Load(Result<(), Refusal>),
+    Load(Answer),
     // A value was deposited at an address.
-    Deposit(u32, u16, Result<(), Refusal>),
+    Deposit(u32, u16, Answer),
     // The protect bit of an address was set.
-    Protect(u32, bool, Result<(), Refusal>),
+    Protect(u32, bool, Answer),
     // The value at an address was read.
-    Examine(u32, Result<u16, Refusal>),
+    Examine(u32, Answer),
     // What a place holds.
     Place {
         address: u32,
@@ -94,28 +93,24 @@ impl fmt::Display for Line {
     fn fmt<W: fmt::Write>(&self, f: &mut fmt::Formatter<W>) -> fmt::Result {
         match *self {
             Line::Storage(kind, size) => write!(f, "storage {kind} {size}"),
-            Line::Load(answer) => write!(f, "load: {}", serving(answer)),
+            Line::Load(answer) => write!(f, "load: {answer}"),
             Line::Deposit(address, value, answer) => {
                 write!(
                     f,
-                    "deposit {} {}: {}",
+                    "deposit {} {}: {answer}",
                     Address(address),
-                    Halfword(value),
-                    serving(answer)
+                    Halfword(value)
                 )
             }
             Line::Protect(address, bit, answer) => {
                 write!(
                     f,
-                    "protect {} {}: {}",
+                    "protect {} {}: {answer}",
                     Address(address),
-                    word(bit, "1", "0"),
-                    serving(answer)
+                    word(bit, "1", "0")
                 )
             }
-            Line::Examine(address, answer) => {
-                write!(f, "examine {}: {}", Address(address), reading(answer))
-            }
+            Line::Examine(address, answer) => write!(f, "examine {}: {answer}", Address(address)),
             Line::Place {
                 address,
                 value,

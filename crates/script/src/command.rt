@@ -13,6 +13,13 @@ pub struct Stretch {
     pub count: u32,
 }
 
+// An entry of the code sheet: a key, and an operation's number.
+#[derive(Clone, Copy, PartialEq, Eq, Debug)]
+pub struct Entry {
+    pub key: u16,
+    pub number: u16,
+}
+
 impl Stretch {
     // Its addresses in order, up to address FFFFFFFF.
     pub fn addresses(self) -> Take<RangeInclusive<u32>>
@@ -33,8 +40,8 @@ pub enum Command {
     Cell { address: u32, cells: Vec<u32> },
     // Take these halfwords as the code sheet.
     Sheet(Vec<u16>),
-    // Append an entry to the code sheet: a key, and an operation's number.
-    Entry { key: u16, number: u16 },
+    // Append an entry to the code sheet.
+    Entry(Entry),
     // Perform the script in a file.
     Do(String),
     // Load the code sheet.

@@ -3,7 +3,7 @@ ghost use Rattle.std.specs.Prelude.{◌≡◌, length};
 ghost use Rattle.std.specs.Option.{ok_or};
 ghost use Rattle.script.specs.Commands.{Agrees, cell_said, deposit_said, entry_said, sheet_said, start_said, storage_said, stretch_said};
 
-use crate::command::{Command, Stretch};
+use crate::command::{Command, Entry, Stretch};
 use crate::name;
 use crate::number::{fits, number};
 use crate::unread::Unread;
@@ -64,7 +64,7 @@ pub fn entry(key: &str, operation: &str) -> Result<Command, Unread>
 {
     let key = number(key, 16).ok_or(Unread::Text)?;
     let number = name::operation_number(operation).ok_or(Unread::Text)?;
-    Ok(Command::Entry { key, number })
+    Ok(Command::Entry(Entry { key, number }))
 }
 
 // `deposit ADDRESS VALUE ..`.

@@ -30,7 +30,7 @@ impl PackedStorage {
     {
         let count = size.min(524_288) as usize;
         let values = vec![in heap; 0u16; count]?;
-        let protects = vec![in heap; 0u16; (count + 15) / 16]?;
+        let protects = vec![in heap; 0u16; count.div_ceil(16)]?;
         Ok(PackedStorage { values, protects })
     }
 

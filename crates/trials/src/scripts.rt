@@ -1,5 +1,5 @@
 // Lines of the script that can and cannot be read.
-use script::command::{Command, Stretch};
+use script::command::{Command, Entry, Stretch};
 use script::read::read_line;
 use script::unread::Unread;
 use std::test::Fail;
@@ -67,15 +67,15 @@ fn read(rt: HostRuntime) -> Result<(), Fail> {
         let read = read_line(rt.alloc(), line);
         assert!(rt; matches!(read, Ok(Command::Blank)), "{}", line);
     }
-    for (line, entry) in [
-        ("entry 4ff ISPB", (0x4ff, 34)),
-        ("entry FFFF 65535", (0xffff, 0xffff)),
-        ("entry 0 0007# C", (0, 7)),
+    for (line, key, number) in [
+        ("entry 4ff ISPB", 0x4ff, 34),
+        ("entry FFFF 65535", 0xffff, 0xffff),
+        ("entry 0 0007# C", 0, 7),
     ] {
-        let Ok(Command::Entry { key, number }) = read_line(rt.alloc(), line) else {
+        let Ok(Command::Entry(entry)) = read_line(rt.alloc(), line) else {
             return Err(Fail::new(line));
         };
-        assert_eq!(rt; (key, number), entry, "{}", line);
+        assert_eq!(rt; entry, Entry { key, number }, "{}", line);
     }
     for (line, address, count) in [
         ("view FFFFFF00 256", 0xffff_ff00, 256),

@@ -1,13 +1,16 @@
 // A code sheet, read into a table: the count n, then n keys strictly rising, then n operation numbers.
-ghost use Rattle.std.specs.Prelude.{◌≡◌, ◌<◌, ◌≤◌, length, if◌then◌else◌, Ok, Err};
+ghost use Rattle.std.specs.Prelude.{◌≡◌, ◌<◌, length, if◌then◌else◌, Ok, Err};
 ghost use Rattle.sheet.specs.declared.refusal.Layer.TheVariants as layer;
 ghost use Rattle.sheet.specs.Refusals.{refused, told_sheet};
 ghost use Rattle.sheet.specs.Sheets.{Fills, entries_to, entry_of, keys_of, numbers_of, rising, shaped, table_of};
-ghost use Rattle.sheet.specs.Tabled.{halved, tabled};
+ghost use Rattle.sheet.specs.Tabled.{tabled, told_entries};
+
+mod entries;
 
 use super::Table;
 use crate::operation::Operation;
 use crate::refusal::SheetFault;
+use entries::Entries;
 
 impl Table {
     // The table that a sheet fills, or the fault of the sheet.
@@ -15,21 +18,22 @@ impl Table {
         ensures answer { tabled result ≡ table_of sheet.now }
         ensures fills { Fills sheet.now (tabled result) }
     {
-        let (keys, numbers) = halves(sheet)?;
-        filled(keys, numbers)
+        let entries = halves(sheet)?;
+        entries.table()
     }
 }
 
-// The keys and the operation numbers.
-fn halves(sheet: &[u16]) -> Result<(&[u16], &[u16]), SheetFault>
-    ensures { halved result ≡ (if shaped sheet.now then Ok (keys_of sheet.now, numbers_of sheet.now) else Err (refused 1 0 layer.Sheet)) }
+// The entries, if the sheet has the right shape.
+fn halves(sheet: &[u16]) -> Result<Entries<'_>, SheetFault>
+    ensures { told_entries result ≡ (if shaped sheet.now then Ok (keys_of sheet.now, numbers_of sheet.now) else Err (refused 1 0 layer.Sheet)) }
 {
-    let (count, entries) = sheet.split_first().ok_or(SheetFault::Shape)?;
+    let (count, rest) = sheet.split_first().ok_or(SheetFault::Shape)?;
     let n = usize::from(*count);
-    if n == 0 || n > 1280 || entries.len() != 2 * n {
+    if n == 0 || n > 1280 || rest.len() != 2 * n {
         return Err(SheetFault::Shape);
     }
-    Ok(entries.split_at(n))
+    let (keys, numbers) = rest.split_at(n);
+    Ok(Entries { keys, numbers })
 }
 
 // Whether key i is above the one before it.
@@ -40,33 +44,31 @@ fn rises(keys: &[u16], i: usize) -> bool
     i == 0 || keys[i - 1] < keys[i]
 }
 
-// The operation of entry i.
-fn entry(keys: &[u16], numbers: &[u16], i: usize) -> Result<Operation, SheetFault>
-    requires below { i < length keys.now }
-    requires paired { length keys.now ≡ length numbers.now }
-    requires small { length keys.now ≤ 1280 }
-    ensures { told_sheet result ≡ entry_of keys.now numbers.now i }
-{
-    let key = keys[i];
-    if key >= 1280 || !rises(keys, i) {
-        return Err(SheetFault::Key(i as u32));
+impl Entries<'_> {
+    // The operation of entry i.
+    fn operation(&self, i: usize) -> Result<Operation, SheetFault>
+        requires { i < length self.now.keys.now }
+        ensures { told_sheet result ≡ entry_of self.now.keys.now self.now.numbers.now i }
+    {
+        let key = self.keys[i];
+        if key >= 1280 || !rises(self.keys, i) {
+            return Err(SheetFault::Key(i as u32));
+        }
+        match Operation::try_from(self.numbers[i]) {
+            Ok(operation) if operation.admits(key / 256) => Ok(operation),
+            _ => Err(SheetFault::Code(i as u32)),
+        }
     }
-    match Operation::try_from(numbers[i]) {
-        Ok(operation) if operation.admits(key / 256) => Ok(operation),
-        _ => Err(SheetFault::Code(i as u32)),
-    }
-}
 
-// The table of all entries.
-fn filled(keys: &[u16], numbers: &[u16]) -> Result<Table, SheetFault>
-    requires paired { length keys.now ≡ length numbers.now }
-    requires small { length keys.now ≤ 1280 }
-    ensures { tabled result ≡ entries_to keys.now numbers.now (length keys.now) }
-{
-    let mut table = Table::empty();
-    for (i, key) in keys.iter().enumerate() {
-        let operation = entry(keys, numbers, i)?;
-        table.put(*key, operation);
+    // The table of all entries.
+    fn table(&self) -> Result<Table, SheetFault>
+        ensures { tabled result ≡ entries_to self.now.keys.now self.now.numbers.now (length self.now.keys.now) }
+    {
+        let mut table = Table::empty();
+        for (i, key) in self.keys.iter().enumerate() {
+            let operation = self.operation(i)?;
+            table.put(*key, operation);
+        }
+        Ok(table)
     }
-    Ok(table)
 }

@@ -4,9 +4,9 @@ use Rattle.sheet.specs.Tabled.{tabled}
 use Rattle.sheet.proofs.Filling.{fills, halves_fill}
 use Rattle.sheet.proofs.table.Table.from_sheet.Goals as goal
 
-pub returns-in_err-keys : goal.returns-in_err-keys
+pub returns-in_err-entries : goal.returns-in_err-entries
 unfolding table_of
-returns-in_err-keys c =
+returns-in_err-entries c =
     let s = c.args.sheet.now in
     let e : tabled c.from_residual.result ≡ table_of s = search rules in
     record { answer = e; fills = subst (Fills s) (sym e) (fills s) }
@@ -14,5 +14,5 @@ returns-in_err-keys c =
 pub returns : goal.returns
 returns c =
     let s = c.args.sheet.now in
-    let e : tabled c.filled.result ≡ table_of s = halves_fill s _ _ _ c.in_ok-keys.ensures c.filled.ensures in
+    let e : tabled c.table.result ≡ table_of s = halves_fill s _ _ _ c.in_ok-entries.ensures c.table.ensures in
     record { answer = e; fills = subst (Fills s) (sym e) (fills s) }

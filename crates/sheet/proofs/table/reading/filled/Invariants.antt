@@ -1,6 +1,0 @@
-use Rattle.std.proofs.Common.{◌≡◌, Ok}
-use Rattle.sheet.specs.Sheets.{entries_to}
-use Rattle.sheet.proofs.table.reading.filled.Given as goal
-
-abbrev pub invariant-loop-i : goal.invariant-loop-i
-invariant-loop-i l = entries_to l.keys l.numbers l.i ≡ Ok l.table.entries
