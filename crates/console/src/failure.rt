@@ -15,7 +15,7 @@ pub enum Failure {
     Reported,
 }
 
-// A `?` needs each of these: memory fails in three ways, a file in one, and a line in two.
+// By hand, since want of memory comes in four ways and its case keeps none of them; the `From` of a derive keeps what came.
 impl From<AllocError> for Failure {
     fn from(_e: AllocError) -> Failure {
         Failure::Memory

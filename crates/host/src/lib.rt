@@ -21,8 +21,8 @@ pub struct Seal {
     sealed: (),
 }
 
-// What every host shows. A host of one's own writes the first four methods; the other four are the calls. They are pairs,
-// since only these bodies can make or end a token.
+// What every host shows. A host of one's own writes the first four methods; the other four are the calls. Each call
+// stands beside a method, since only the bodies here can make or end a token.
 pub trait Host {
     ghost meaning: { Self → Meaning };
 

@@ -29,7 +29,7 @@ pub struct State {
     low: RegisterSet,
     high: RegisterSet,
     pending: Pending,
-    // The entries alone: definitions build states, and the types that a caller holds have the invariants.
+    // The entries of a table, without its invariant: definitions build states, so the invariants stand on the types that hold one.
     table: [Option<Operation>; 1280],
 }
 

@@ -40,7 +40,7 @@ pub fn storage(kind: &str, size: &str) -> Result<Command, Unread>
     Ok(Command::Storage { kind, size })
 }
 
-// `cell ADDRESS RAW ..`.
+// `cell ADDRESS RAW ..`. It differs from a deposit in what its values are; one text for both would be longer than the two.
 pub fn cell(address: &str, cells: Vec<u32>) -> Result<Command, Unread>
     ensures { Agrees result (cell_said address.now cells.items) }
 {

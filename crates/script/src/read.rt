@@ -24,8 +24,8 @@ impl Words<'_> {
         }
     }
 
-    // The stretch that begins at the address in word 1. Its count is the word with a number, which is the last one; a count
-    // that is left out is 1.
+    // The stretch that begins at the address in word 1. Its count is the word numbered `last`, and no word stands after it; a
+    // count that is left out is 1.
     fn stretch(&self, last: usize) -> Result<Stretch, Unread>
         ensures { result ≡ ok_or (stretch_in last (words_in self.now)) Unread.Text }
     {

@@ -37,7 +37,8 @@ impl From<UnknownKind> for Unread {
     }
 }
 
-// A `?` needs both of these: `collect` and `String::from_str` fail with the one, and `push` with the other.
+// By hand, since contracts say which case a `?` makes, and the `From` of a derive says nothing. `push` fails with an error of
+// its own.
 impl From<AllocError> for Unread {
     ghost from_gives = { λ _ r. r ≡ unread.Memory };
 

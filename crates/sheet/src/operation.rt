@@ -1,4 +1,4 @@
-// The operations, their numbers and names, and the instruction formats that admit each.
+// The operations, their numbers and names, and the instruction formats in which each may stand.
 ghost use Rattle.std.specs.Prelude.{◌≡◌, Some, codes};
 ghost use Rattle.std.specs.Result.{result_ok};
 ghost use Rattle.sheet.specs.Names.{operation_named};

@@ -92,7 +92,7 @@ impl Refusal {
         }
     }
 
-    // The entry of the sheet, or the address, that was refused; else 0.
+    // The entry of the sheet, or the address, that was refused; else 0, as the rules of the machine have it.
     pub fn place(self) -> u32
         ensures { result ≡ (refusal_of self).place }
     {

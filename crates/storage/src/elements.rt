@@ -70,7 +70,7 @@ pub fn protected<T: Element>(elements: &[T], place: u32) -> Option<bool>
     Some(elements[index].is_protected())
 }
 
-// Puts a halfword into a place.
+// Puts a halfword into a place. A guard differs in the one call; a closure for it would need a contract as long as either.
 #[tactic(auto, using(crate::proofs::PlaceFacts::found))]
 pub fn write<T: Element>(elements: &mut [T], place: u32, value: u16) -> bool
     ensures answer { result ≡ within (places_of T.place elements.old) place }

@@ -113,9 +113,9 @@ const ADMITTED: [u32; 41] = [
 
 #[test]
 fn operations(rt: HostRuntime) {
-    for (number, expected) in ADMITTED.iter().enumerate() {
-        let Ok(operation) = Operation::try_from((number % 65_536) as u16) else {
-            assert_eq!(rt; *expected, 0);
+    for (number, expected) in (0u16..100).zip(ADMITTED) {
+        let Ok(operation) = Operation::try_from(number) else {
+            assert_eq!(rt; expected, 0);
             continue;
         };
         let classes = (0..6u16).fold(0u32, |classes, class| {
@@ -124,6 +124,6 @@ fn operations(rt: HostRuntime) {
                 .wrapping_add(u32::from(operation.admits(class)))
         });
         assert_eq!(rt; classes, expected.wrapping_mul(10), "class 5 is none");
-        assert_eq!(rt; usize::from(u16::from(operation)), number);
+        assert_eq!(rt; u16::from(operation), number);
     }
 }

@@ -30,7 +30,7 @@ impl Stopped {
         Ok(())
     }
 
-    // Writes a halfword into storage.
+    // Writes a halfword into storage. Protect differs in the one call; a closure for it would need a contract as long as either.
     pub fn deposit<S: Storage>(
         &self,
         storage: &mut S,
