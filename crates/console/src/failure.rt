@@ -15,7 +15,8 @@ pub enum Failure {
     Reported,
 }
 
-// By hand, since want of memory comes in four ways and its case keeps none of them; the `From` of a derive keeps what came.
+// By hand, since want of memory comes in four ways and its case keeps none of them; the `From` of a derive keeps what came,
+// and a derive for the one case that does would be no plainer.
 impl From<AllocError> for Failure {
     fn from(_e: AllocError) -> Failure {
         Failure::Memory

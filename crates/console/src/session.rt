@@ -28,7 +28,7 @@ enum Phase {
     Called,
 }
 
-// What it writes goes to its caller's text, which is printed line by line of the script.
+// What it writes goes to its caller's text: a session that ends early is gone, and what it wrote is still to be printed.
 #[derive(Drop)]
 pub struct Session {
     heap: Global,
@@ -94,7 +94,7 @@ impl Session {
         Ok(session)
     }
 
-    // Makes the storage that a `storage` line asks for.
+    // Makes the storage that a `storage` line asks for. The size that is printed is the one it has, which may be less.
     fn choose(&mut self, kind: Kind, size: u32, out: &mut String) -> Result<(), Failure> {
         if self.phase != Phase::Fresh {
             return Err(Failure::Unread);

@@ -3,27 +3,20 @@ ghost use Rattle.std.specs.Prelude.{◌≡◌, Some};
 ghost use Rattle.listing.specs.Answers.{answer_text, done_text, value_text};
 ghost use Rattle.sheet.specs.Refusals.{told};
 
-use crate::number;
+use crate::number::Halfword;
 use sheet::refusal::Refusal;
 use std::fmt;
 
-// What a call serves: that it is done, or the halfword that it read.
+// What a call served, which is a halfword if it reads, or its refusal.
 #[derive(Clone, Copy, PartialEq, Eq, Debug)]
-pub enum Served {
-    Done,
-    Halfword(u16),
-}
-
-// What a call served, or its refusal.
-#[derive(Clone, Copy, PartialEq, Eq, Debug)]
-pub struct Answer(pub Result<Served, Refusal>);
+pub struct Answer(pub Result<Option<u16>, Refusal>);
 
 // The answer of a call that serves without a value.
 impl From<Result<(), Refusal>> for Answer {
     ghost from_gives = { λ r a. answer_text a ≡ done_text (told r) };
 
     fn from(answer: Result<(), Refusal>) -> Answer {
-        Answer(answer.map(|()| Served::Done))
+        Answer(answer.map(|()| None))
     }
 }
 
@@ -32,7 +25,7 @@ impl From<Result<u16, Refusal>> for Answer {
     ghost from_gives = { λ r a. answer_text a ≡ value_text (told r) };
 
     fn from(answer: Result<u16, Refusal>) -> Answer {
-        Answer(answer.map(|value| Served::Halfword(value)))
+        Answer(answer.map(|value| Some(value)))
     }
 }
 
@@ -41,8 +34,8 @@ impl fmt::Display for Answer {
 
     fn fmt<W: fmt::Write>(&self, f: &mut fmt::Formatter<W>) -> fmt::Result {
         match self.0 {
-            Ok(Served::Done) => f.write_str("done"),
-            Ok(Served::Halfword(value)) => write!(f, "{}", number::Halfword(value)),
+            Ok(None) => f.write_str("done"),
+            Ok(Some(value)) => write!(f, "{}", Halfword(value)),
             Err(refusal) => write!(f, "{refusal}"),
         }
     }

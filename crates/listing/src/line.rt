@@ -55,6 +55,7 @@ impl fmt::Display for Kind {
     }
 }
 
+// By hand, since the text that a derive prints is in no clause.
 impl fmt::Display for UnknownKind {
     ghost output = { λ _. Some (codes "no such kind of storage") };
 

@@ -30,7 +30,7 @@ impl Stretch {
 }
 
 // What one line says.
-#[derive(Drop)]
+#[derive(PartialEq, Eq, Debug, Drop)]
 pub enum Command {
     // Nothing, or only a comment.
     Blank,

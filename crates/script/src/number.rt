@@ -18,7 +18,7 @@ pub trait Numeral: Sized {
         ensures { result ≡ number_by from_value radix limit (without_leading_plus word.now) };
 }
 
-// The library reads each type by a function of its own.
+// The library reads each type by a function of its own, so there is an impl for each.
 impl Numeral for u16 {
     ghost limit = { 2 ^ 16 };
 

@@ -43,6 +43,7 @@ impl Words<'_> {
         parse::storage(self.word(1), self.word(2))
     }
 
+    // A deposit differs in what its values are; one text for both would be longer than the two.
     fn cell(&self) -> Result<Command, Unread>
         ensures { Agrees result (said_by verb.Cell (words_in self.now)) }
     {

@@ -57,6 +57,7 @@ pub enum Format {
 #[derive(Clone, Copy, PartialEq, Eq, Debug)]
 pub struct UnknownClass;
 
+// By hand, here and below, since the text that a derive prints is in no clause.
 impl fmt::Display for UnknownOperation {
     ghost output = { λ _. Some (codes "no such operation") };
 
@@ -220,7 +221,7 @@ impl Operation {
         }
     }
 
-    // Whether the operation may stand in a class.
+    // Whether the operation may stand in a class, which is a number of the machine: its key divided by 256.
     pub fn admits(self, class: u16) -> bool
         ensures { result ≡ admitted self class }
     {

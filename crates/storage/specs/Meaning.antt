@@ -1,5 +1,5 @@
 -- What a storage means: one place after another, each a halfword, a protect bit and a mark, sound or unsound.
-use Rattle.std.specs.Prelude.{ℕ, Bool, true, false, cond, List, map, length, take, Some, None, Option, nat_lt, slice_get, slice_index_or, slice_set}
+use Rattle.std.specs.Prelude.{◌≡◌, ℕ, Bool, true, false, cond, List, map, length, take, Some, None, Option, nat_lt, slice_get, slice_index_or, slice_set}
 
 pub record Place : Type 0 where
   pub value : ℕ
@@ -39,6 +39,15 @@ written m i v = cond (within m i) (slice_set m i (place_with_value (at m i) v)) 
 -- Guard: one place changes; at or above the size none does.
 abbrev pub guarded : List Place → ℕ → Bool → List Place
 guarded m i b = cond (within m i) (slice_set m i (place_with_protect (at m i) b)) m
+
+-- What a write, and what a guard, makes of a storage that means m: it answers r, and the storage means n afterwards.
+pub record Writes (m : List Place) (i v : ℕ) (r : Bool) (n : List Place) : Type 0 where
+  pub answer : r ≡ within m i
+  pub after : n ≡ written m i v
+
+pub record Guards (m : List Place) (i : ℕ) (b r : Bool) (n : List Place) : Type 0 where
+  pub answer : r ≡ within m i
+  pub after : n ≡ guarded m i b
 
 -- What a list means whose elements each stand for a place: at most 524,288 places.
 unfoldable pub places_of : {X : Type 0} → (X → Place) → List X → List Place

@@ -1,7 +1,7 @@
 // Cell storage: one 32-bit number for each place, with a parity bit.
 ghost use Rattle.std.specs.Prelude.{◌≡◌, ◌/◌, min, true, false, replicate, IfOk};
 ghost use Rattle.storage.specs.Cells.{cell_guarded, cell_of, cell_places, cell_written, cells_guarded, cells_written};
-ghost use Rattle.storage.specs.Meaning.{blank, guarded, place_with_protect, place_with_value, within, written};
+ghost use Rattle.storage.specs.Meaning.{Guards, Writes, blank, place_with_protect, place_with_value};
 
 use crate::Storage;
 use crate::elements::{self, Element};
@@ -104,16 +104,14 @@ impl Storage for CellStorage {
     }
 
     fn write(&mut self, place: u32, value: u16) -> bool
-        ensures answer { result ≡ within (cell_places self.old) place }
-        ensures after { cell_places self.new ≡ written (cell_places self.old) place value }
+        ensures storage { Writes (cell_places self.old) place value result (cell_places self.new) }
         ensures list { self.new.cells.items ≡ cells_written self.old.cells.items place value }
     {
         elements::write(&mut self.cells, place, value)
     }
 
     fn guard(&mut self, place: u32, bit: bool) -> bool
-        ensures answer { result ≡ within (cell_places self.old) place }
-        ensures after { cell_places self.new ≡ guarded (cell_places self.old) place bit }
+        ensures storage { Guards (cell_places self.old) place bit result (cell_places self.new) }
         ensures list { self.new.cells.items ≡ cells_guarded self.old.cells.items place bit }
     {
         elements::guard(&mut self.cells, place, bit)

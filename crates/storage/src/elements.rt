@@ -1,6 +1,6 @@
 // A list with one element for each place, whoever owns it: at most 524,288 are places, the elements past them are not used.
 ghost use Rattle.std.specs.Prelude.{◌≡◌, ℕ, ◌<◌, ◌≤◌, Bool, cond, length, IfSome};
-ghost use Rattle.storage.specs.Meaning.{Place, changed, guarded, place_with_protect, place_with_value, places_of, protected_of, read_of, within, written};
+ghost use Rattle.storage.specs.Meaning.{Guards, Place, Writes, changed, place_with_protect, place_with_value, places_of, protected_of, read_of, within};
 
 // What is kept for one place.
 pub trait Element {
@@ -73,8 +73,7 @@ pub fn protected<T: Element>(elements: &[T], place: u32) -> Option<bool>
 // Puts a halfword into a place. A guard differs in the one call; a closure for it would need a contract as long as either.
 #[tactic(auto, using(crate::proofs::PlaceFacts::found))]
 pub fn write<T: Element>(elements: &mut [T], place: u32, value: u16) -> bool
-    ensures answer { result ≡ within (places_of T.place elements.old) place }
-    ensures after { places_of T.place elements.new ≡ written (places_of T.place elements.old) place value }
+    ensures storage { Writes (places_of T.place elements.old) place value result (places_of T.place elements.new) }
     ensures list { elements.new ≡ changed (λ x. T.with_value x value) elements.old place }
 {
     let Some(index) = index_of(elements, place) else {
@@ -87,8 +86,7 @@ pub fn write<T: Element>(elements: &mut [T], place: u32, value: u16) -> bool
 // Puts the protect bit of a place.
 #[tactic(auto, using(crate::proofs::PlaceFacts::found))]
 pub fn guard<T: Element>(elements: &mut [T], place: u32, bit: bool) -> bool
-    ensures answer { result ≡ within (places_of T.place elements.old) place }
-    ensures after { places_of T.place elements.new ≡ guarded (places_of T.place elements.old) place bit }
+    ensures storage { Guards (places_of T.place elements.old) place bit result (places_of T.place elements.new) }
     ensures list { elements.new ≡ changed (λ x. T.with_protect x bit) elements.old place }
 {
     let Some(index) = index_of(elements, place) else {

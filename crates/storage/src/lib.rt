@@ -3,7 +3,7 @@
 #![tactic(auto)]
 
 ghost use Rattle.std.specs.Prelude.{◌≡◌, ◌≤◌, List, length};
-ghost use Rattle.storage.specs.Meaning.{Place, guarded, protected_of, read_of, within, written};
+ghost use Rattle.storage.specs.Meaning.{Guards, Place, Writes, protected_of, read_of};
 
 pub mod cells;
 pub mod elements;
@@ -29,11 +29,9 @@ pub trait Storage {
 
     // Puts a halfword, makes the place sound and keeps its protect bit; no at or above the size.
     fn write(&mut self, place: u32, value: u16) -> bool
-        ensures answer { result ≡ within (meaning self.old) place }
-        ensures after { meaning self.new ≡ written (meaning self.old) place value };
+        ensures { Writes (meaning self.old) place value result (meaning self.new) };
 
     // Sets the protect bit and keeps halfword and mark; no at or above the size.
     fn guard(&mut self, place: u32, bit: bool) -> bool
-        ensures answer { result ≡ within (meaning self.old) place }
-        ensures after { meaning self.new ≡ guarded (meaning self.old) place bit };
+        ensures { Guards (meaning self.old) place bit result (meaning self.new) };
 }

@@ -1,6 +1,6 @@
 // Packed storage: a list of halfwords, and a list of protect bits, sixteen to a halfword from the left.
 ghost use Rattle.std.specs.Prelude.{◌≡◌, ◌/◌, ◌<◌, min, cond, length, replicate, IfOk, IfSome};
-ghost use Rattle.storage.specs.Meaning.{blank, guarded, within, written};
+ghost use Rattle.storage.specs.Meaning.{Guards, Writes, blank, within};
 ghost use Rattle.storage.specs.Packed.{bits_guarded, packed_places, values_written};
 
 use crate::Storage;
@@ -76,8 +76,7 @@ impl Storage for PackedStorage {
 
     #[tactic(auto, using(crate::proofs::PackedFacts::found))]
     fn write(&mut self, place: u32, value: u16) -> bool
-        ensures answer { result ≡ within (packed_places self.old) place }
-        ensures after { packed_places self.new ≡ written (packed_places self.old) place value }
+        ensures storage { Writes (packed_places self.old) place value result (packed_places self.new) }
         ensures list { self.new.values.items ≡ values_written self.old.values.items self.old.protects.items place value }
         ensures kept { self.new.protects ≡ self.old.protects }
     {
@@ -90,8 +89,7 @@ impl Storage for PackedStorage {
 
     #[tactic(auto, using(crate::proofs::PackedFacts::found))]
     fn guard(&mut self, place: u32, bit: bool) -> bool
-        ensures answer { result ≡ within (packed_places self.old) place }
-        ensures after { packed_places self.new ≡ guarded (packed_places self.old) place bit }
+        ensures storage { Guards (packed_places self.old) place bit result (packed_places self.new) }
         ensures list { self.new.protects.items ≡ bits_guarded self.old.values.items self.old.protects.items place bit }
         ensures kept { self.new.values ≡ self.old.values }
     {

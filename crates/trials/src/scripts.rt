@@ -64,8 +64,7 @@ fn unread(rt: HostRuntime) {
 #[test]
 fn read(rt: HostRuntime) -> Result<(), Fail> {
     for line in ["", "   ", "# load", "  \t# deposit 80"] {
-        let read = read_line(rt.alloc(), line);
-        assert!(rt; matches!(read, Ok(Command::Blank)), "{}", line);
+        assert_eq!(rt; read_line(rt.alloc(), line), Ok(Command::Blank), "{}", line);
     }
     for (line, key, number) in [
         ("entry 4ff ISPB", 0x4ff, 34),

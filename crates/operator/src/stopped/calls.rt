@@ -11,6 +11,7 @@ use sheet::refusal::Refusal;
 use sheet::table::Table;
 use storage::Storage;
 
+// Each call with a storage says that the processor stays (`same`): what a call leaves is said by the call.
 impl Stopped {
     // A fresh processor: all zero, with an empty table.
     pub fn new() -> Stopped
