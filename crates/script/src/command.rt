@@ -22,6 +22,7 @@ pub struct Entry {
 
 impl Stretch {
     // Its addresses in order, up to address FFFFFFFF.
+    #[tactic(auto, using(crate::proofs::Addresses::stretch_gives))]
     pub fn addresses(self) -> Take<RangeInclusive<u32>>
         ensures { AlwaysYields ⟦<Take<RangeInclusive<u32>> as Iterator>⟧.next_gives (λ x. x) result (addresses_of self) }
     {

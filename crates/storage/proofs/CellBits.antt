@@ -1,5 +1,5 @@
 -- What a cell holds after a value is put.
-use Rattle.std.proofs.Common.{◌≡◌, ℕ, zero, suc, ◌+◌, ◌*◌, ◌/◌, ◌%◌, ◌^◌, ◌<◌, refl, arith}
+use Rattle.std.proofs.Common.{◌≡◌, ℕ, zero, suc, ◌+◌, ◌*◌, ◌/◌, ◌%◌, ◌^◌, ◌<◌, true, false, refl, arith}
 use lib.Count.{ones, ones_in, ones_cat}
 use Rattle.storage.specs.Meaning.{place_with_value}
 use Rattle.storage.specs.Cells.{cell_of, cell_written, parity_of}
@@ -23,3 +23,12 @@ value_place c v x h e =
     let e2 : x / 131072 ≡ c / 131072 = omega arith in
     let e3 : x % 131072 ≡ parity_of v * 65536 + v = omega arith in
     simp (e1, e2, e3, odd v h)
+
+-- One 1 is an odd count of ones, and two are not.
+pub mark_of_1 : (cell_of 1).sound ≡ true
+unfolding ones ones_in
+mark_of_1 = refl
+
+pub mark_of_3 : (cell_of 3).sound ≡ false
+unfolding ones ones_in
+mark_of_3 = refl

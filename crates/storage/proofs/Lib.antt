@@ -1,4 +1,4 @@
-mod CellBits
+pub mod CellBits
 mod PackedFacts
 pub mod CellFacts
 pub mod PlaceFacts

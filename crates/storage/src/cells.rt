@@ -7,6 +7,16 @@ use crate::Storage;
 use crate::elements::{self, Element};
 use std::alloc::{AllocError, Global};
 
+// The cell with a value put. The parity bit makes the count of ones odd; the protect bit and the 14 bits above are kept.
+#[tactic(auto, using(crate::proofs::CellBits::parity_lt))]
+fn with_value(cell: u32, value: u16) -> u32
+    ensures answer { result ≡ cell_written cell value }
+    ensures upper { result / 262144 ≡ cell / 262144 }
+{
+    let parity = 1 - value.count_ones() % 2;
+    (cell >> 17 << 1 | parity) << 16 | u32::from(value)
+}
+
 // A cell: the value, above it the parity bit and the protect bit, and 14 bits that are kept.
 impl Element for u32 {
     ghost place = { cell_of };
@@ -28,15 +38,13 @@ impl Element for u32 {
         *self >> 17 & 1 == 1
     }
 
-    // The parity bit makes the count of ones odd; the protect bit and the 14 bits above are kept.
-    #[tactic(auto, using(crate::proofs::CellBits::parity_lt))]
+    #[tactic(auto, using(crate::proofs::CellBits::value_place))]
     fn put_value(&mut self, value: u16)
         ensures element { self.new ≡ cell_written self.old value }
         ensures after { cell_of self.new ≡ place_with_value (cell_of self.old) value }
         ensures upper { self.new / 262144 ≡ self.old / 262144 }
     {
-        let parity = 1 - value.count_ones() % 2;
-        *self = (*self >> 17 << 1 | parity) << 16 | u32::from(value);
+        *self = with_value(*self, value);
     }
 
     // All but the protect bit is kept.
@@ -50,6 +58,7 @@ impl Element for u32 {
 }
 
 // The marks of cells 1 and 3: one 1 is sound, and two are not.
+#[tactic(auto, using(crate::proofs::CellBits::mark_of_1, crate::proofs::CellBits::mark_of_3))]
 pub fn example_marks() -> (bool, bool)
     ensures marks { result ≡ ((cell_of 1).sound, (cell_of 3).sound) }
     ensures answer { result ≡ (true, false) }
