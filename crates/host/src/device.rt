@@ -1,5 +1,5 @@
 // A device, and the host over it. A host of one's own needs only the device's own behaviour.
-ghost use Rattle.std.specs.Prelude.{◌≡◌};
+ghost use Rattle.std.specs.Prelude.{◌≡◌, Some};
 ghost use Rattle.host.specs.Devices.{Input, Machine, Output, behaves, device_meaning};
 
 mod state;
@@ -39,6 +39,18 @@ pub struct DeviceHost<D> {
     device: D,
 }
 
+impl<D: Device> DeviceHost<D> {
+    // Keeps a word as the latest given, and moves it into the device.
+    fn keep(&mut self, command: u32, word: u32)
+        ensures current { self.new.current ≡ self.old.current }
+        ensures latest { self.new.latest ≡ Some (command, word) }
+        ensures device { D.state self.new.device ≡ D.machine.next (D.state self.old.device) (Output command word) }
+    {
+        self.latest = Some((command, word));
+        self.device.output(command, word);
+    }
+}
+
 impl<D: Device> Host for DeviceHost<D> {
     ghost meaning = { λ h. device_meaning (λ d. behaves D.machine (D.state d)) h };
 
@@ -61,8 +73,7 @@ impl<D: Device> Host for DeviceHost<D> {
         if let Some(command) = self.current.take()
             && !is_input(command)
         {
-            self.latest = Some((command, word));
-            self.device.output(command, word);
+            self.keep(command, word);
         }
     }
 

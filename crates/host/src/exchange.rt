@@ -1,6 +1,7 @@
 // The exchange of one word with a host, as an input or output instruction makes it.
-ghost use Rattle.std.specs.Prelude.{◌≡◌};
+ghost use Rattle.std.specs.Prelude.{◌≡◌, [], is_some};
 ghost use Rattle.host.specs.Exchanges.{closed_answer, closed_by, exchange_answer, exchanged, told};
+ghost use Rattle.host.specs.Meaning.{accepts, commanded};
 
 use crate::{Accepted, Host, is_input};
 
@@ -28,12 +29,21 @@ fn close<H: Host>(host: &mut H, token: Accepted, command: u32, word: u32) -> Exc
     }
 }
 
+// Sends a command.
+fn send<H: Host>(host: &mut H, command: u32) -> Option<Accepted>
+    ensures answer { is_some result ≡ accepts (H.meaning host.old) command }
+    ensures after { H.meaning host.new ≡ commanded (H.meaning host.old) command }
+    ensures words { ((H.meaning host.new).offers []).word ≡ ((H.meaning host.old).offers []).word }
+{
+    host.command(command)
+}
+
 // Sends a command, and closes it if it is accepted.
 pub fn exchange<H: Host>(host: &mut H, command: u32, word: u32) -> Exchanged
     ensures answer { told result ≡ exchange_answer (H.meaning host.old) command }
     ensures after { H.meaning host.new ≡ exchanged (H.meaning host.old) command word }
 {
-    match host.command(command) {
+    match send(host, command) {
         Some(token) => close(host, token, command, word),
         None => Exchanged::NotAccepted,
     }

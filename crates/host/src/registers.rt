@@ -20,13 +20,20 @@ fn number(command: u32) -> usize
     (command & 31) as usize
 }
 
+// An idle host over registers that hold these words.
+fn idle(words: [u32; 32]) -> RegisterHost
+    ensures { result ≡ record { current = None; latest = None; device = record { words = words } } }
+{
+    DeviceHost::new(Registers::new(words))
+}
+
 impl RegisterHost {
     // An idle host whose registers hold these words.
     pub fn with_words(words: [u32; 32]) -> RegisterHost
         ensures answer { result ≡ record { current = None; latest = None; device = record { words = words } } }
         ensures keeps { Keeps words (register_meaning result) }
     {
-        DeviceHost::new(Registers::new(words))
+        idle(words)
     }
 }
 

@@ -1,7 +1,8 @@
 -- A list whose elements each stand for a place, read and changed.
-use Rattle.std.proofs.Common.{◌≡◌, ℕ, ◌<◌, ◌≤◌, min, Bool, cond, List, map, length, get_or, take, set, Some, None, Option, slice_get, sym, ap, ◌∙◌, arith}
+use Rattle.std.proofs.Common.{◌≡◌, ℕ, ◌<◌, ◌≤◌, min, Bool, true, cond, List, map, length, get_or, take, set, Some, None, Option, slice_get, sym, ap, ◌∙◌, arith}
 use lib.Seq.{take-set-lt}
-use Rattle.std.proofs.lemmas.List.{length-map, length-take, get_or-map, get_or-take, map-set}
+use Rattle.std.proofs.lemmas.List.{get_or_read, length-map, length-take, get_or-map, get_or-take, map-set}
+use Rattle.std.proofs.lemmas.Bool.{cond_below, ltb-true}
 use Rattle.std.proofs.lemmas.Bool.Decides.{nat_tests}
 use Rattle.std.proofs.lemmas.Option.{slice_get-get_or, slice_get_past}
 use Rattle.storage.specs.Meaning.{Place, at, blank, changed, guarded, place_with_protect, place_with_value, places_of, protected_of, read_of, within, written}
@@ -11,7 +12,7 @@ module _ {X : Type 0} (place : X → Place) (xs : List X) where
   unfolding places_of
   length-places_of = simp (length-map, length-take) (omega arith)
 
-  at_places : (i : ℕ) (d : X) → i < length (places_of place xs) → at (places_of place xs) i ≡ place (get_or xs i d)
+  pub at_places : (i : ℕ) (d : X) → i < length (places_of place xs) → at (places_of place xs) i ≡ place (get_or xs i d)
   unfolding places_of
   at_places i d h =
       let h' : i < length (take 524288 xs) = simp length-map at h in
@@ -23,6 +24,23 @@ module _ {X : Type 0} (place : X → Place) (xs : List X) where
   places_set i x h =
       let l = length-places_of in
       ap (map place) (take-set-lt 524288 xs i x (omega arith)) ∙ map-set place (take 524288 xs) i x
+
+  pub places_put : (i : ℕ) (x : X) → within (places_of place xs) i ≡ true → places_of place (set xs i x) ≡ set (places_of place xs) i (place x)
+  places_put i x h = places_set i x (ltb-true i (length (places_of place xs)) h)
+
+  -- An element x that was found at an index below the size.
+  module _ (i : ℕ) (x : X) (h : i < length (places_of place xs)) (found : x ≡ get_or xs i x) where
+    pub places_inside : i < length xs
+    places_inside = let l = length-places_of in omega arith
+
+    pub places_found : Some (place x) ≡ cond (within (places_of place xs) i) (Some (at (places_of place xs) i)) None
+    places_found =
+        ap (λ (p : Place). Some p) (sym (at_places i x h ∙ ap place (sym found)))
+        ∙ cond_below i (length (places_of place xs)) _ None h
+
+    pub element_found : (d : X) → Some x ≡ cond (within (places_of place xs) i) (Some (get_or xs i d)) None
+    element_found d =
+        ap (λ (y : X). Some y) (get_or_read xs i x places_inside found d) ∙ cond_below i (length (places_of place xs)) _ None h
 
   -- What the code does at an index i, which it got by the test whether place p lies below the size.
   module _ (p : ℕ) (r : Option ℕ) (e : r ≡ cond (within (places_of place xs) p) (Some p) None) where

@@ -2,19 +2,28 @@
 use Rattle.std.proofs.Common.{◌≡◌, ℕ, suc, ◌+◌, ◌-◌, ◌*◌, ◌/◌, ◌%◌, ◌^◌, ◌<◌, ◌≤◌, ◌≢◌, Bool, true, false, eqb, sym, refl, ap, ◌∙◌, ⊎_elim, arith}
 use lib.Bits.{bit_and, bit_or}
 use mir.Syntax.{w16}
+use mir.Val.{bool_byte}
 use Rattle.std.specs.Int.{bit_at}
 use Rattle.std.proofs.lemmas.Bool.{cases_eq, cases_lt}
-use Rattle.std.proofs.lemmas.Nat.{and_le_l, mod_below, or_lt, pow_pos, shr_split}
+use Rattle.std.proofs.lemmas.Nat.{and_le_l, and_mask, mod_below, or_lt, pow_pos, shr_split}
 use Rattle.std.proofs.lemmas.Nat.Bits.{bit_at-suc, bit_at_above, bit_at_cat_high, bit_at_cat_low, bit_at_clear_other, bit_at_clear_same, bit_at_lowest, bit_at_set_other, bit_at_set_same, same_from_bits}
 use Rattle.word.specs.Bits.{bit_of, num, number_with_bit}
 
-num_lt : (b : Bool) → num b < 2
+pub num_lt : (b : Bool) → num b < 2
 num_lt true = omega arith
 num_lt false = omega arith
 
-num_bit : (b : Bool) → eqb (num b) 1 ≡ b
+pub num_bit : (b : Bool) → eqb (num b) 1 ≡ b
 num_bit true = refl
 num_bit false = refl
+
+pub num_byte : (b : Bool) → bool_byte b ≡ num b
+num_byte true = refl
+num_byte false = refl
+
+-- the lowest bit of a number, as a test
+pub low_bit : (n : ℕ) → eqb (bit_and n 1) 1 ≡ eqb (n % 2) 1
+low_bit n = ap (λ (x : ℕ). eqb x 1) (and_mask n 1)
 
 module _ (w s : ℕ) (b : Bool) where
   low : w % 2 ^ s < 2 ^ s

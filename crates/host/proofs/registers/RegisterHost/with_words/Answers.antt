@@ -3,4 +3,4 @@ use Rattle.host.proofs.RegisterRuns.{registers_keep}
 use Rattle.host.proofs.registers.RegisterHost.with_words.Goals as goal
 
 pub returns-clause-keeps : goal.returns-clause-keeps
-returns-clause-keeps c = registers_keep c.new-2.result c.args.words (search rules) (search rules)
+returns-clause-keeps c = registers_keep c.idle.result c.args.words (search rules) (search rules)
